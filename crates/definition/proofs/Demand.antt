@@ -1,0 +1,319 @@
+-- Demand 3: the instructions of a sound state, with nothing pending, are what the record asks; the reader finds them in the words;
+-- and a sheet that is fit comes to such a state.
+use Prim.Native.Nat.{ℕ, suc, zero, _+_, _*_, _<_, _≤_, min}
+use mathlib.Core.Path.{_≡_, refl, sym, ap, _∙_, subst}
+use mathlib.Core.Logic.{_⊎_, inl, inr, _↔_}
+use mathlib.Core.List.{List, [], _∷_, _++_, append-nil, append-assoc, List·Memᴰ, List·Memᴰ·head, List·Memᴰ·tail, List·Memᴰ·not-nil, List·Memᴰ·cases-cons, List·Memᴰ·append-cases, Memᴰ·append-right}
+use mathlib.Core.Option.{Option, some, none}
+use mathlib.Core.Bool.{Bool, true, false}
+use native.Mathlib.Omega.{arith}
+use lib.Dec.{T, lit<, eqb}
+use lib.ListN.{getElem?}
+use borrow.Author.Tests.{ne-eqb}
+use Rattle.definition.specs.Choice.{among}
+use Rattle.definition.specs.Numbers.{OpCapability, OpName, OpMemberName, OpDecorate, OpMemberDecorate, OpTypeBool, OpTypeInt, OpTypeFloat, OpTypeVector, OpTypeMatrix, OpTypeImage, OpTypeSampler, OpTypeAccelerationStructureKHR, OpTypeRayQueryKHR}
+use Rattle.definition.specs.Instructions.{Instruction, capability}
+use Rattle.definition.specs.Reader.{uses, layoutOf}
+use Rattle.definition.specs.Sheet.{TypeEntry, startOf}
+use Rattle.definition.specs.Tests.{fit}
+use Rattle.definition.specs.Shapes.{Shape, Key, sameKey, shapeOf, inner, sized, rank, rankOf, opcodeOf, typeOf, entry, shape}
+use Rattle.definition.specs.State.{State, same, occurrences, lookup, idOf, boundOf, capabilityInstructions, instructions}
+use Rattle.definition.specs.Operations.{Progress, judged}
+use Rattle.definition.specs.WellDeclared.{times, once, declaring, Above, UsesDeclared, NoTwins, Twins, plainType, targets, targetOf, marks, needs, listedIn, listedBy, needed, WellDeclared, Declares, alone, over, HasShape, EntriesDeclared, Found, IsBytes, Demand3}
+use Rattle.definition.proofs.Lists.{times-append, targets-append, upTo, upTo-in, upTo-out, lookup-in, lookup-out}
+use Rattle.definition.proofs.Sizes.{W, Sized}
+use Rattle.definition.proofs.ByShape.{FitsIn, FitsLength, Formed, PlainIn, Deeper, facts}
+use Rattle.definition.proofs.Sound.{taken-range, Sound, Settled, Note, Declaration}
+use Rattle.definition.proofs.Types.{HasShapeId, Told}
+use Rattle.definition.proofs.Records.{FitSheet, fit-sheet}
+use Rattle.definition.proofs.Reading.{Readable, module-read}
+use Rattle.definition.proofs.Capabilities.{small-listed}
+
+-- an instruction that declares nothing and needs nothing
+record Quiet (d : Instruction) : Type 0 where
+  silent : d .result ≡ none
+  other : T (plainType (d .opcode)) → ⊥
+  free : (c : ℕ) → occurrences c (needs d) ≡ 0
+
+AllQuiet : List Instruction → Type 0
+AllQuiet xs = (d : Instruction) → List·Memᴰ d xs → Quiet d
+
+tail-quiet : (x : Instruction) (xs : List Instruction) → AllQuiet (x ∷ xs) → AllQuiet xs
+unfolding AllQuiet
+tail-quiet x xs q d m = q d (List·Memᴰ·tail m)
+
+head-quiet : (x : Instruction) (xs : List Instruction) → AllQuiet (x ∷ xs) → Quiet x
+unfolding AllQuiet
+head-quiet x xs q = q x (List·Memᴰ·head refl)
+
+quiet-times : (i : ℕ) (xs ds : List Instruction) → AllQuiet xs → times i (xs ++ ds) ≡ times i ds
+unfolding times
+quiet-times i [] ds q = refl
+quiet-times i (x ∷ xs) ds q = omega (arith, ap (λ (o : Option ℕ). once o i) (head-quiet x xs q .silent), quiet-times i xs ds (tail-quiet x xs q))
+
+quiet-needed : (c : ℕ) (xs ds : List Instruction) → AllQuiet xs → needed c (xs ++ ds) ≡ needed c ds
+unfolding needed
+quiet-needed c [] ds q = refl
+quiet-needed c (x ∷ xs) ds q = omega (arith, head-quiet x xs q .free c, quiet-needed c xs ds (tail-quiet x xs q))
+
+above-weaker : (b c ds : List Instruction) → ((i : ℕ) → times i b ≤ times i c) → Above b ds → Above c ds
+above-weaker b c [] le h = tt
+above-weaker b c (d ∷ ds) le h = (λ t u m. omega (arith, h .0 t u m, le u), above-weaker (b ++ d ∷ []) (c ++ d ∷ []) ds (λ i. omega (arith, le i, times-append i b (d ∷ []), times-append i c (d ∷ []))) (h .1))
+
+quiet-above : (b xs ds : List Instruction) → AllQuiet xs → Above b ds → Above b (xs ++ ds)
+quiet-above b [] ds q h = h
+quiet-above b (x ∷ xs) ds q h = (
+  λ t. absurd (subst (λ (o : Option ℕ). T (declaring o)) (head-quiet x xs q .silent) t),
+  quiet-above (b ++ x ∷ []) xs ds (tail-quiet x xs q) (above-weaker b (b ++ x ∷ []) ds (λ i. omega (arith, times-append i b (x ∷ []))) h),
+)
+
+quiet-twins : (xs ds : List Instruction) → AllQuiet xs → NoTwins ds → NoTwins (xs ++ ds)
+quiet-twins [] ds q h = h
+quiet-twins (x ∷ xs) ds q h = (λ j m t. head-quiet x xs q .other (t .plain), quiet-twins xs ds (tail-quiet x xs q) h)
+
+-- the capabilities
+capabilities-quiet : (cs : List ℕ) → AllQuiet (capabilityInstructions cs)
+unfolding capabilityInstructions AllQuiet needs occurrences
+capabilities-quiet [] d m = absurd (List·Memᴰ·not-nil m)
+capabilities-quiet (c ∷ cs) d m = go (List·Memᴰ·cases-cons m) (λ n. capabilities-quiet cs d n)
+  where
+    itself : Quiet (capability c)
+    itself = record { silent = refl; other = λ t. t; free = λ c. refl }
+
+    go : (d ≡ capability c) ⊎ List·Memᴰ d (capabilityInstructions cs) → (List·Memᴰ d (capabilityInstructions cs) → Quiet d) → Quiet d
+    go (inl e) f = rw e itself
+    go (inr n) f = f n
+
+capabilities-readable : (last : ℕ) (cs : List ℕ) → ((c : ℕ) → List·Memᴰ c cs → c ≤ W) → (d : Instruction) → List·Memᴰ d (capabilityInstructions cs) → Readable last d
+unfolding capabilityInstructions
+capabilities-readable last [] small d m = absurd (List·Memᴰ·not-nil m)
+capabilities-readable last (c ∷ cs) small d m = go (List·Memᴰ·cases-cons m) (λ n. capabilities-readable last cs (λ x e. small x (List·Memᴰ·tail e)) d n)
+  where
+    itself : Readable last (capability c)
+    itself = record {
+      formed = record { small = lit< tt; known = refl; typed = refl; declares = refl; operands = refl };
+      fits = record { words = λ B p q. (omega (arith, small c (List·Memᴰ·head refl)), tt); short = lit< tt };
+    }
+
+    go : (d ≡ capability c) ⊎ List·Memᴰ d (capabilityInstructions cs) → (List·Memᴰ d (capabilityInstructions cs) → Readable last d) → Readable last d
+    go (inl e) f = rw e itself
+    go (inr n) f = f n
+
+-- a name or a decoration
+module _ (last : ℕ) (d : Instruction) (n : Note last d) where
+  -- what fails at the four opcodes fails at all that mark
+  note-opcode : (o : ℕ) → (T (marks o) → ⊥) → d .opcode ≡ o → ⊥
+  note-opcode o f e = f (subst (λ (x : ℕ). T (marks x)) e (n .marking))
+
+  note-free : (c : ℕ) → occurrences c (needs d) ≡ 0
+  unfolding needs occurrences
+  note-free c = rw (ne-eqb (d .opcode) OpTypeInt (note-opcode OpTypeInt (λ t. t)), ne-eqb (d .opcode) OpTypeFloat (note-opcode OpTypeFloat (λ t. t)), ne-eqb (d .opcode) OpTypeImage (note-opcode OpTypeImage (λ t. t)), ne-eqb (d .opcode) OpTypeAccelerationStructureKHR (note-opcode OpTypeAccelerationStructureKHR (λ t. t)), ne-eqb (d .opcode) OpTypeRayQueryKHR (note-opcode OpTypeRayQueryKHR (λ t. t))) refl
+
+  note-quiet : Quiet d
+  note-quiet = record { silent = n .silent; other = other; free = note-free }
+    where
+      other : T (plainType (d .opcode)) → ⊥
+      other t = rw (ne-eqb (d .opcode) OpTypeBool (note-opcode OpTypeBool (λ t. t)), ne-eqb (d .opcode) OpTypeInt (note-opcode OpTypeInt (λ t. t)), ne-eqb (d .opcode) OpTypeFloat (note-opcode OpTypeFloat (λ t. t)), ne-eqb (d .opcode) OpTypeVector (note-opcode OpTypeVector (λ t. t)), ne-eqb (d .opcode) OpTypeMatrix (note-opcode OpTypeMatrix (λ t. t)), ne-eqb (d .opcode) OpTypeImage (note-opcode OpTypeImage (λ t. t)), ne-eqb (d .opcode) OpTypeSampler (note-opcode OpTypeSampler (λ t. t)), ne-eqb (d .opcode) OpTypeAccelerationStructureKHR (note-opcode OpTypeAccelerationStructureKHR (λ t. t)), ne-eqb (d .opcode) OpTypeRayQueryKHR (note-opcode OpTypeRayQueryKHR (λ t. t))) at t
+
+  note-lists : listedBy d ≡ []
+  unfolding listedBy
+  note-lists = rw (ne-eqb (d .opcode) OpCapability (note-opcode OpCapability (λ t. t))) refl
+
+-- what the sections list and mark
+no-targets : (xs : List Instruction) → ((d : Instruction) → List·Memᴰ d xs → targetOf d ≡ []) → targets xs ≡ []
+unfolding targets
+no-targets [] h = refl
+no-targets (x ∷ xs) h = rw (h x (List·Memᴰ·head refl)) (no-targets xs (λ d m. h d (List·Memᴰ·tail m)))
+
+none-listed : (xs : List Instruction) → ((d : Instruction) → List·Memᴰ d xs → listedBy d ≡ []) → listedIn xs ≡ []
+unfolding listedIn
+none-listed [] h = refl
+none-listed (x ∷ xs) h = rw (h x (List·Memᴰ·head refl)) (none-listed xs (λ d m. h d (List·Memᴰ·tail m)))
+
+capability-targets : (cs : List ℕ) → targets (capabilityInstructions cs) ≡ []
+unfolding capabilityInstructions targets targetOf
+capability-targets [] = refl
+capability-targets (c ∷ cs) = capability-targets cs
+
+capability-listed : (cs : List ℕ) → listedIn (capabilityInstructions cs) ≡ cs
+unfolding capabilityInstructions listedIn listedBy
+capability-listed [] = refl
+capability-listed (c ∷ cs) = ap (λ (xs : List ℕ). c ∷ xs) (capability-listed cs)
+
+listed-append : (xs ys : List Instruction) → listedIn (xs ++ ys) ≡ listedIn xs ++ listedIn ys
+unfolding listedIn
+listed-append [] ys = refl
+listed-append (x ∷ xs) ys = rw (listed-append xs ys) (sym (append-assoc (listedBy x) (listedIn xs) (listedIn ys)))
+
+-- a declaration is no capability and no decoration
+module _ (last : ℕ) (d : Instruction) (h : Declaration last d) where
+  not-opcode : (o : ℕ) → layoutOf o .declares ≡ false → d .opcode ≡ o → ⊥
+  not-opcode o f e =
+      let a : layoutOf (d .opcode) .declares ≡ true = h .formed .declares ∙ ap declaring (h .result) in
+      let b : layoutOf (d .opcode) .declares ≡ false = ap (λ (x : ℕ). layoutOf x .declares) e ∙ f in
+      let z : _≡_ {A = ℕ} 0 1 = cc in omega arith
+
+  declaration-lists : listedBy d ≡ []
+  unfolding listedBy
+  declaration-lists = rw (ne-eqb (d .opcode) OpCapability (not-opcode OpCapability refl)) refl
+
+  declaration-marks : targetOf d ≡ []
+  unfolding targetOf
+  declaration-marks = rw (ne-eqb (d .opcode) OpName (not-opcode OpName refl), ne-eqb (d .opcode) OpMemberName (not-opcode OpMemberName refl), ne-eqb (d .opcode) OpDecorate (not-opcode OpDecorate refl), ne-eqb (d .opcode) OpMemberDecorate (not-opcode OpMemberDecorate refl)) refl
+
+module _ (start : ℕ) (s : State) (h : Sound start [] s) where
+  -- everything but the declarations
+  front : List Instruction
+  front = capabilityInstructions (s .capabilities) ++ (s .names ++ s .annotations)
+
+  as-front : instructions s ≡ front ++ s .declarations
+  unfolding front instructions
+  as-front = sym (append-assoc (capabilityInstructions (s .capabilities)) (s .names ++ s .annotations) (s .declarations) ∙ ap (λ (xs : List Instruction). capabilityInstructions (s .capabilities) ++ xs) (append-assoc (s .names) (s .annotations) (s .declarations)))
+
+  front-quiet : AllQuiet front
+  unfolding front AllQuiet
+  front-quiet d m = outer (List·Memᴰ·append-cases (capabilityInstructions (s .capabilities)) m)
+    where
+      inside : List·Memᴰ d (s .names) ⊎ List·Memᴰ d (s .annotations) → Quiet d
+      inside (inl n) = note-quiet (s .last) d (h .names .notes d n)
+      inside (inr n) = note-quiet (s .last) d (h .annotations .notes d n)
+
+      outer : List·Memᴰ d (capabilityInstructions (s .capabilities)) ⊎ List·Memᴰ d (s .names ++ s .annotations) → Quiet d
+      outer (inl n) = capabilities-quiet (s .capabilities) d n
+      outer (inr n) = inside (List·Memᴰ·append-cases (s .names) n)
+
+  all-times : (i : ℕ) → times i (instructions s) ≡ times i (s .declarations)
+  all-times i = rw as-front (quiet-times i front (s .declarations) front-quiet)
+
+  all-needed : (c : ℕ) → needed c (instructions s) ≡ needed c (s .declarations)
+  all-needed c = rw as-front (quiet-needed c front (s .declarations) front-quiet)
+
+  all-targets : targets (instructions s) ≡ targets (s .names) ++ targets (s .annotations)
+  unfolding front
+  all-targets = rw (
+    as-front,
+    targets-append front (s .declarations),
+    targets-append (capabilityInstructions (s .capabilities)) (s .names ++ s .annotations),
+    targets-append (s .names) (s .annotations),
+    capability-targets (s .capabilities),
+    no-targets (s .declarations) (λ d m. declaration-marks (s .last) d (h .formed d m)),
+  ) (append-nil (targets (s .names) ++ targets (s .annotations)))
+
+  all-listed : listedIn (instructions s) ≡ s .capabilities
+  unfolding front
+  all-listed = rw (
+    as-front,
+    listed-append front (s .declarations),
+    listed-append (capabilityInstructions (s .capabilities)) (s .names ++ s .annotations),
+    listed-append (s .names) (s .annotations),
+    capability-listed (s .capabilities),
+    none-listed (s .declarations) (λ d m. declaration-lists (s .last) d (h .formed d m)),
+    none-listed (s .names) (λ d m. note-lists (s .last) d (h .names .notes d m)),
+    none-listed (s .annotations) (λ d m. note-lists (s .last) d (h .annotations .notes d m)),
+  )
+      (append-nil (s .capabilities ++ []) ∙ append-nil (s .capabilities))
+
+  -- what the reader takes
+  all-readable : ((c : ℕ) → List·Memᴰ c (s .capabilities) → c ≤ W) → (d : Instruction) → List·Memᴰ d (instructions s) → Readable (s .last) d
+  unfolding instructions
+  all-readable small d m = outer (List·Memᴰ·append-cases (capabilityInstructions (s .capabilities)) m)
+    where
+      noted : (xs : List Instruction) → Note (s .last) d → Readable (s .last) d
+      noted xs n = record { formed = n .formed; fits = n .fits }
+
+      inside : List·Memᴰ d (s .annotations) ⊎ List·Memᴰ d (s .declarations) → Readable (s .last) d
+      inside (inl n) = noted (s .annotations) (h .annotations .notes d n)
+      inside (inr n) = let q = h .formed d n in record { formed = q .formed; fits = q .fits }
+
+      middle : List·Memᴰ d (s .names) ⊎ List·Memᴰ d (s .annotations ++ s .declarations) → Readable (s .last) d
+      middle (inl n) = noted (s .names) (h .names .notes d n)
+      middle (inr n) = inside (List·Memᴰ·append-cases (s .annotations) n)
+
+      outer : List·Memᴰ d (capabilityInstructions (s .capabilities)) ⊎ List·Memᴰ d (s .names ++ (s .annotations ++ s .declarations)) → Readable (s .last) d
+      outer (inl n) = capabilities-readable (s .last) (s .capabilities) small d n
+      outer (inr n) = middle (List·Memᴰ·append-cases (s .names) n)
+
+  all-on : (t : ℕ) → List·Memᴰ t (targets (s .names)) ⊎ List·Memᴰ t (targets (s .annotations)) → (start < t) × (t ≤ s .last)
+  all-on t (inl m) = h .names .on t m
+  all-on t (inr m) = h .annotations .on t m
+
+  each-once : (i : ℕ) → start < i → i ≤ s .last → times i (s .declarations) ≡ 1
+  each-once i a b = omega (arith, h .ids i, upTo-out start i a, upTo-in (s .last) i b)
+
+  no-other : (i : ℕ) → 1 ≤ times i (s .declarations) → (start < i) × (i ≤ s .last)
+  no-other i t = taken-range start [] s h i (omega arith)
+
+  pub well-declared : WellDeclared start (suc (s .last)) (instructions s)
+  well-declared = record {
+    each-once = λ i a b. all-times i ∙ each-once i a (omega arith);
+    no-other = λ i t. let q = no-other i (rw (all-times i) at t) in (q .0, omega arith);
+    above = rw as-front (quiet-above [] front (s .declarations) front-quiet (h .above));
+    on-declared = λ t m. let q = all-on t (List·Memᴰ·append-cases (targets (s .names)) (rw all-targets at m)) in all-times t ∙ each-once t (q .0) (q .1);
+    capabilities = λ c. rw (all-listed, all-needed c) (h .caps c);
+    no-twins = rw as-front (quiet-twins front (s .declarations) front-quiet (h .apart));
+  }
+
+  all-declarations : {d : Instruction} → List·Memᴰ d (s .declarations) → List·Memᴰ d (instructions s)
+  all-declarations m = rw as-front (Memᴰ·append-right front m)
+
+  -- an entered shape is declared, and so is what it names
+  declares : (n : ℕ) (l : Shape) (i : ℕ) → rankOf l < n → T (plainType (opcodeOf l)) → List·Memᴰ (shape l, i) (s .types) → Declares (instructions s) l i
+  declares zero l i r p m = absurd (omega arith)
+  declares (suc n) l i r p m = go (λ a j q t e. declares n a j q t e) (h .settled l i m)
+    where
+      later : {d : Instruction} → List·Memᴰ d (s .declarations) → List·Memᴰ d (instructions s)
+      later e = all-declarations e
+
+      by : ((a : Shape) (j : ℕ) → rankOf a < n → T (plainType (opcodeOf a)) → List·Memᴰ (shape a, j) (s .types) → Declares (instructions s) a j)
+          → (o : Option Key) (x y : ℕ) → inner l ≡ o → PlainIn o → Deeper o (rankOf l) → FitsIn (s .types) o x → y ≡ 0 → List·Memᴰ (typeOf l i x y) (s .declarations) → Declares (instructions s) l i
+      by f none x y e t d fits z on = alone e (later (rw (fits, z) at on))
+      by f (some (entry k)) x y e t d fits z on = absurd t
+      by f (some (shape a)) x y e t d fits z on = over e (later (rw z at on)) (f a x (omega arith) t fits)
+
+      go : ((a : Shape) (j : ℕ) → rankOf a < n → T (plainType (opcodeOf a)) → List·Memᴰ (shape a, j) (s .types) → Declares (instructions s) a j)
+          → List·Memᴰ {A = ℕ × ℕ} (rankOf l, i) [] ⊎ Settled (s .types) (s .declarations) l i → Declares (instructions s) l i
+      go f (inl q) = absurd (List·Memᴰ·not-nil q)
+      go f (inr q) = by f (inner l) (q .x) (q .y) refl (facts l .plain-inner p) (facts l .deeper) (q .fits) (subst (λ (o : Option ℕ). FitsLength o (q .y)) (facts l .plain-sized p) (q .length)) (q .declared)
+
+  found-id : (k i : ℕ) → List·Memᴰ (entry k, i) (s .types) → idOf s (entry k) ≡ some i
+  found-id k i m = go (lookup sameKey (entry k) (s .types)) refl
+    where
+      go : (o : Option ℕ) → lookup sameKey (entry k) (s .types) ≡ o → o ≡ some i
+      go none e = absurd (lookup-out sameKey (entry k) (s .types) e i m)
+      go (some j) e = ap some (h .unique (entry k) j i (lookup-in sameKey (entry k) (s .types) j e) m)
+
+  -- equal ids exactly where equal shapes
+  one-id : (l m : Shape) (i j : ℕ) → List·Memᴰ (shape l, i) (s .types) → List·Memᴰ (shape m, j) (s .types) → (i ≡ j) ↔ (l ≡ m)
+  one-id l m i j a b = (λ e. h .injective l m j (rw e at a) b, λ e. h .unique (shape m) i j (rw e at a) b)
+
+  pub entries-declared : (ts : List TypeEntry) → ((k : ℕ) (t : TypeEntry) → getElem? ts k ≡ some t → Told k (shapeOf (t .inner)) (s .types)) → EntriesDeclared ts s (instructions s)
+  entries-declared ts told = record {
+    shared = shared;
+    declared = λ k l a. let q = has k l a in (q .0, found-id k (q .0) (q .1), declares (suc (rankOf l)) l (q .0) (omega arith) (a .3) (q .2));
+  }
+    where
+      has : (k : ℕ) (l : Shape) → HasShape ts k l → HasShapeId k l (s .types)
+      has k l a = subst (λ (o : Option Shape). Told k o (s .types)) (a .2) (told k (a .0) (a .1))
+
+      shared : (k g : ℕ) (l m : Shape) (i j : ℕ) → HasShape ts k l → HasShape ts g m → idOf s (entry k) ≡ some i → idOf s (entry g) ≡ some j → (i ≡ j) ↔ (l ≡ m)
+      shared k g l m i j a b e f =
+          let q = has k l a in
+          let r = has g m b in
+          let e′ = found-id k (q .0) (q .1) in
+          let f′ = found-id g (r .0) (r .1) in
+          let x : q .0 ≡ i = cc in
+          let y : r .0 ≡ j = cc in
+          one-id l m i j (rw x at (q .2)) (rw y at (r .2))
+
+-- Whatever sheet the definition finds fit, whoever reads its words finds it well declared.
+pub demand-3 : Demand3
+demand-3 s bytes p e =
+    let f = fit-sheet s bytes p e in
+    let start = startOf s in
+    let h = f .good .sound in
+    record {
+      found = record { version = 0x00010300; generator = 28; bound = boundOf (p .state); instructions = instructions (p .state) };
+      reads = module-read (p .state) (omega (arith, f .low)) (all-readable start (p .state) h (small-listed (p .state .capabilities) (p .state .declarations) (h .caps)));
+      well = well-declared start (p .state) h;
+      entries = entries-declared start (p .state) h (p .seen .types) (f .good .told);
+    }

@@ -1,0 +1,17 @@
+pub mod Rows
+pub mod Lists
+pub mod Sizes
+pub mod ByShape
+pub mod Sound
+pub mod Finding
+pub mod Marks
+pub mod Inners
+pub mod Types
+pub mod Values
+pub mod Bounds
+pub mod Passing
+pub mod Records
+pub mod Reading
+pub mod Capabilities
+pub mod Demand
+pub mod Teeth

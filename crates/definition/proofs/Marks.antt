@@ -1,0 +1,121 @@
+-- Names and decorations: each is an instruction that the reader takes, on an id that is taken, so the state stays sound.
+use Prim.Native.Nat.{ℕ, suc, zero, _+_, _*_, _<_, _≤_}
+use mathlib.Core.Path.{_≡_, refl, sym, ap, _∙_}
+use mathlib.Core.List.{List, [], _∷_, _++_, List·Memᴰ, List·Memᴰ·eq-of-singleton}
+use mathlib.Core.Option.{Option, some, none}
+use mathlib.Core.Bool.{Bool, true, false}
+use native.Mathlib.Omega.{arith}
+use lib.Dec.{T, lit<}
+use lib.ListN.{length}
+use Rattle.definition.specs.Bytes.{Name}
+use Rattle.definition.specs.Instructions.{Instruction, packed, name, memberName, decorate, memberDecorate}
+use Rattle.definition.specs.Reader.{isString}
+use Rattle.definition.specs.State.{State, annotate, label}
+use Rattle.definition.specs.Rules.{labelIf, annotateIf, block}
+use Rattle.definition.specs.WellDeclared.{times, targets, targetOf}
+use Rattle.definition.proofs.Sizes.{W, Under, under-more}
+use Rattle.definition.proofs.Sound.{Sound, Note, pending, mark-sound, name-sound, taken-range}
+use Rattle.definition.proofs.Finding.{Grew, grew-refl}
+
+-- a name whose words the reader takes for a string
+pub record Spelled (bs : List ℕ) : Type 0 where
+  pub string : isString (packed bs) ≡ true
+  pub words : Under W (packed bs)
+  pub short : length (packed bs) ≤ 64
+
+abbrev pub GoodName : Name → Type 0
+GoodName none = Unit
+GoodName (some bs) = Spelled bs
+
+-- the targets
+decorate-target : (id d : ℕ) (xs : List ℕ) (t : ℕ) → List·Memᴰ t (targets (decorate id d xs ∷ [])) → t ≡ id
+unfolding targets targetOf
+decorate-target id d xs t m = List·Memᴰ·eq-of-singleton m
+
+member-target : (id i d : ℕ) (xs : List ℕ) (t : ℕ) → List·Memᴰ t (targets (memberDecorate id i d xs ∷ [])) → t ≡ id
+unfolding targets targetOf
+member-target id i d xs t m = List·Memᴰ·eq-of-singleton m
+
+name-target : (id : ℕ) (bs : List ℕ) (t : ℕ) → List·Memᴰ t (targets (name id bs ∷ [])) → t ≡ id
+unfolding targets targetOf
+name-target id bs t m = List·Memᴰ·eq-of-singleton m
+
+member-name-target : (id i : ℕ) (bs : List ℕ) (t : ℕ) → List·Memᴰ t (targets (memberName id i bs ∷ [])) → t ≡ id
+unfolding targets targetOf
+member-name-target id i bs t m = List·Memᴰ·eq-of-singleton m
+
+-- what adds a name or a decoration changes nothing else
+pub annotate-grew : (d : Instruction) (s : State) → Grew s (annotate d s)
+annotate-grew d s = record { more = λ k i m. m; still = λ i. omega arith; up = omega arith; values = refl; fresh = λ h i m. m }
+
+pub label-grew : (d : Instruction) (s : State) → Grew s (label d s)
+label-grew d s = record { more = λ k i m. m; still = λ i. omega arith; up = omega arith; values = refl; fresh = λ h i m. m }
+
+pub annotateIf-grew : (b : Bool) (d : Instruction) (s : State) → Grew s (annotateIf b d s)
+annotateIf-grew false d s = grew-refl s
+annotateIf-grew true d s = annotate-grew d s
+
+pub labelIf-grew : (b : Bool) (write : List ℕ → Instruction) (n : Name) (s : State) → Grew s (labelIf b write n s)
+labelIf-grew false write n s = grew-refl s
+labelIf-grew true write none s = grew-refl s
+labelIf-grew true write (some bs) s = label-grew (write bs) s
+
+-- an id that is declared, or taken and not yet declared
+abbrev pub Taken : ℕ → List (ℕ × ℕ) → State → Type 0
+Taken id P s = 1 ≤ times id (s .declarations) + pending id P
+
+module _ (start : ℕ) (id : ℕ) (P : List (ℕ × ℕ)) where
+  low : (s : State) → Taken id P s → Sound start P s → id ≤ s .last
+  low s t h = taken-range start P s h id t .1
+
+  pub decorate-sound : (d : ℕ) (xs : List ℕ) (s : State) → d ≤ W → Under W xs → length xs ≤ 1 → Taken id P s → Sound start P s → Sound start P (annotate (decorate id d xs) s)
+  decorate-sound d xs s dw xw few t h =
+      mark-sound start id (decorate id d xs) P s
+      (record {
+        formed = record { small = lit< tt; known = refl; typed = refl; declares = refl; operands = refl };
+        silent = refl;
+        marking = tt;
+        fits = record { words = λ B p q. (omega (arith, low s t h), (omega arith, under-more W B xs p xw)); short = omega arith };
+      })
+      (decorate-target id d xs) t h
+
+  pub member-sound : (i d : ℕ) (xs : List ℕ) (s : State) → i ≤ W → d ≤ W → Under W xs → length xs ≤ 1 → Taken id P s → Sound start P s → Sound start P (annotate (memberDecorate id i d xs) s)
+  member-sound i d xs s iw dw xw few t h =
+      mark-sound start id (memberDecorate id i d xs) P s
+      (record {
+        formed = record { small = lit< tt; known = refl; typed = refl; declares = refl; operands = refl };
+        silent = refl;
+        marking = tt;
+        fits = record { words = λ B p q. (omega (arith, low s t h), (omega arith, (omega arith, under-more W B xs p xw))); short = omega arith };
+      })
+      (member-target id i d xs) t h
+
+  pub decorateIf-sound : (b : Bool) (d : ℕ) (s : State) → d ≤ W → Taken id P s → Sound start P s → Sound start P (annotateIf b (decorate id d []) s)
+  decorateIf-sound false d s dw t h = h
+  decorateIf-sound true d s dw t h = decorate-sound d [] s dw tt (omega arith) t h
+
+  pub name-kept : (b : Bool) (n : Name) (s : State) → GoodName n → Taken id P s → Sound start P s → Sound start P (labelIf b (name id) n s)
+  name-kept false n s g t h = h
+  name-kept true none s g t h = h
+  name-kept true (some bs) s g t h =
+      name-sound start id (name id bs) P s
+      (record {
+        formed = record { small = lit< tt; known = refl; typed = refl; declares = refl; operands = g .string };
+        silent = refl;
+        marking = tt;
+        fits = record { words = λ B p q. (omega (arith, low s t h), under-more W B (packed bs) p (g .words)); short = omega (arith, g .short) };
+      })
+      (name-target id bs) t h
+
+  pub member-name-kept : (b : Bool) (i : ℕ) (n : Name) (s : State) → i ≤ W → GoodName n → Taken id P s → Sound start P s → Sound start P (labelIf b (memberName id i) n s)
+  member-name-kept false i n s iw g t h = h
+  member-name-kept true i none s iw g t h = h
+  member-name-kept true i (some bs) s iw g t h =
+      name-sound start id (memberName id i bs) P s
+      (record {
+        formed = record { small = lit< tt; known = refl; typed = refl; declares = refl; operands = g .string };
+        silent = refl;
+        marking = tt;
+        fits = record { words = λ B p q. (omega (arith, low s t h), (omega arith, under-more W B (packed bs) p (g .words))); short = omega (arith, g .short) };
+      })
+      (member-name-target id i bs) t h

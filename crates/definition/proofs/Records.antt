@@ -1,0 +1,198 @@
+-- The records of a sheet, one after the other: what holds of the progress before a record that passes holds after it, so it holds
+-- of the progress with which a sheet is fit.
+use Prim.Native.Nat.{ℕ, suc, zero, _+_, _*_, _-_, _<_, _≤_}
+use mathlib.Core.Path.{_≡_, refl, sym, ap, _∙_, subst}
+use mathlib.Core.Logic.{_⊎_, inl, inr}
+use mathlib.Core.List.{List, [], _∷_, _++_, List·Memᴰ, List·Memᴰ·head, List·Memᴰ·tail, List·Memᴰ·not-nil}
+use mathlib.Core.Option.{Option, some, none}
+use mathlib.Core.Bool.{Bool, true, false, _&&_}
+use native.Mathlib.Omega.{arith}
+use lib.Dec.{T, eqb, leb, leb→le}
+use lib.ListN.{length, getD, getElem?, take, drop, length-take, length-drop, length-append}
+use Rattle.definition.specs.Choice.{pick, within}
+use Rattle.definition.specs.Bytes.{u16At}
+use Rattle.definition.specs.Sheet.{Options, Record, TypeInner, TypeEntry, Expression, Global, Remap, Entry, recordAt, afterRecord, headerLength, versionOf, startOf, flagsOf, optionsOf, entryOf, tagRank, available, remap, type, constant, global}
+use Rattle.definition.specs.Tests.{sheetLeast, sheetMost, headerTest, Seen, nothing, add, addRecord, noRecord, readingTest, Judged, refused, fit, judge, records, innerTypes}
+use Rattle.definition.specs.Shapes.{Shape, Key, shapeOf, entry, shape}
+use Rattle.definition.specs.State.{State, empty, boundOf}
+use Rattle.definition.specs.Rules.{noEntry, innerAt, declareEntry, declareType, declareConstant, declareGlobal}
+use Rattle.definition.specs.Unfit.{fitnessTest}
+use Rattle.definition.specs.Operations.{Progress, begin, recordTest, declareRecord, boundMost, boundTest, judged}
+use Rattle.definition.specs.WellDeclared.{IsBytes}
+use Rattle.definition.proofs.Rows.{both-true}
+use Rattle.definition.proofs.Sizes.{W, Under}
+use Rattle.definition.proofs.Sound.{Sound, start-sound}
+use Rattle.definition.proofs.Inners.{GoodInner, GoodTypes}
+use Rattle.definition.proofs.Types.{Known, HasShapeId, Told, told-more, Done, type-done}
+use Rattle.definition.proofs.Values.{Referring, GoodRemaps, Read, read-more, global-kept, constant-kept}
+use Rattle.definition.proofs.Bounds.{under-take, under-drop}
+use Rattle.definition.proofs.Passing.{GoodEntry, GoodType, GoodConstant, GoodVariable, Passed, first-passed, unless-passed, reading-passed, entry-good}
+
+-- ---- one more at the end of a list
+
+-- what holds of every element, and of the default
+getD-snoc : {A : Type 0} (P : A → Type 0) (xs : List A) (a d : A) → ((h : ℕ) → P (getD xs h d)) → P a → (h : ℕ) → P (getD (xs ++ a ∷ []) h d)
+getD-snoc P [] a d f p zero = p
+getD-snoc P [] a d f p (suc h) = f 0
+getD-snoc P (x ∷ xs) a d f p zero = f 0
+getD-snoc P (x ∷ xs) a d f p (suc h) = getD-snoc P xs a d (λ k. f (suc k)) p h
+
+-- an element of the longer list is one of the shorter, or the last
+element-snoc : {A : Type 0} (xs : List A) (a b : A) (h : ℕ) → getElem? (xs ++ a ∷ []) h ≡ some b → (getElem? xs h ≡ some b) ⊎ ((h ≡ length xs) × (a ≡ b))
+element-snoc [] a b zero e = inr (refl, let q : some a ≡ some b = e in cc)
+element-snoc [] a b (suc h) e = let z : _≡_ {A = ℕ} 0 1 = cc in absurd (omega arith)
+element-snoc (x ∷ xs) a b zero e = inl e
+element-snoc (x ∷ xs) a b (suc h) e = go (element-snoc xs a b h e)
+  where
+    go : (getElem? xs h ≡ some b) ⊎ ((h ≡ length xs) × (a ≡ b)) → (getElem? (x ∷ xs) (suc h) ≡ some b) ⊎ ((suc h ≡ suc (length xs)) × (a ≡ b))
+    go (inl p) = inl p
+    go (inr p) = inr (ap suc (p .0), p .1)
+
+remaps-snoc : (ms : List Remap) (m : Remap) → GoodRemaps ms → m .size ≤ W → GoodRemaps (ms ++ m ∷ [])
+remaps-snoc [] m g h = (h, tt)
+remaps-snoc (q ∷ ms) m g h = (g .0, remaps-snoc ms m (g .1) h)
+
+-- ---- what holds between two records
+
+pub record Good (start : ℕ) (p : Progress) : Type 0 where
+  pub sound : Sound start [] (p .state)
+  pub read : Read (length (p .seen .types)) (length (p .seen .constants)) (p .state)
+  pub types : GoodTypes (p .seen .types)
+  pub referring : Referring (p .seen .types)
+  pub remaps : GoodRemaps (p .seen .remaps)
+  pub told : (h : ℕ) (t : TypeEntry) → getElem? (p .seen .types) h ≡ some t → Told h (shapeOf (t .inner)) (p .state .types)
+
+pub begin-good : (start : ℕ) → Good start (begin start)
+begin-good start = record {
+  sound = start-sound start;
+  read = record { types = record { all = λ h l. absurd (omega arith); only = λ h i m. absurd (List·Memᴰ·not-nil m) }; constants = refl };
+  types = λ h. tt;
+  referring = λ h b m. absurd (List·Memᴰ·not-nil m);
+  remaps = tt;
+  told = λ h t e. let z : _≡_ {A = ℕ} 0 1 = cc in absurd (omega arith);
+}
+
+module _ (start : ℕ) (o : Options) (k : ℕ) where
+  abbrev After : Progress → Entry → Progress
+  After p e = record { seen = add (p .seen) k e; state = declareEntry o (p .seen) e (p .state) }
+
+  type-good : (p : Progress) (t : TypeEntry) → GoodType (p .seen) t → Good start p → Good start (After p (type t))
+  unfolding add
+  type-good p t g h =
+      let ts = p .seen .types in
+      let s = p .state in
+      let u = declareType (o .debug) ts t s in
+      let d = type-done start (o .debug) ts t s (h .types) (g .inner) (g .name) (g .references) (h .read .types) (h .sound) in
+      let longer : length (ts ++ t ∷ []) ≡ suc (length ts) = omega (arith, length-append ts (t ∷ [])) in
+      record {
+        sound = d .sound;
+        read = record { types = rw longer (d .known); constants = ap length (d .values) ∙ h .read .constants };
+        types = getD-snoc (λ (x : TypeEntry). GoodInner (x .inner)) ts t noEntry (h .types) (g .inner);
+        referring = λ i b m. getD-snoc (λ (x : TypeEntry). (b : ℕ) → List·Memᴰ b (innerTypes (x .inner)) → b < length (ts ++ t ∷ [])) ts t noEntry
+            (λ i b m. omega (arith, h .referring i b m, longer)) (λ b m. omega (arith, g .references b m, longer)) i b m;
+        remaps = h .remaps;
+        told = λ i x e. told ts u s (h .told) (d .more) (d .told) i x (element-snoc ts t x i e);
+      }
+    where
+      told : (ts : List TypeEntry) (u s : State) → ((i : ℕ) (x : TypeEntry) → getElem? ts i ≡ some x → Told i (shapeOf (x .inner)) (s .types)) → ((k : Key) (i : ℕ) → List·Memᴰ (k, i) (s .types) → List·Memᴰ (k, i) (u .types)) → Told (length ts) (shapeOf (t .inner)) (u .types)
+          → (i : ℕ) (x : TypeEntry) → (getElem? ts i ≡ some x) ⊎ ((i ≡ length ts) × (t ≡ x)) → Told i (shapeOf (x .inner)) (u .types)
+      told ts u s old more last i x (inl e) = told-more i (shapeOf (x .inner)) (s .types) (u .types) more (old i x e)
+      told ts u s old more last i x (inr e) = rw (e .0) (subst (λ (y : TypeEntry). Told (length ts) (shapeOf (y .inner)) (u .types)) (e .1) last)
+
+  constant-good : (p : Progress) (e : Expression) → GoodConstant (p .seen) e → Good start p → Good start (After p (constant e))
+  unfolding add
+  constant-good p e g h =
+      let ts = p .seen .types in
+      let cs = p .seen .constants in
+      let q = constant-kept start ts (length cs) e (p .state) (h .types) (g .good) (g .types) (g .constants) (h .read) (h .sound) in
+      let longer : length (cs ++ e ∷ []) ≡ suc (length cs) = omega (arith, length-append cs (e ∷ [])) in
+      record {
+        sound = q .0;
+        read = rw longer (q .1);
+        types = h .types;
+        referring = h .referring;
+        remaps = h .remaps;
+        told = λ i x f. told-more i (shapeOf (x .inner)) (p .state .types) (declareConstant ts e (p .state) .types) (q .2) (h .told i x f);
+      }
+
+  global-good : (p : Progress) (g : Global) → GoodVariable (p .seen) g → Good start p → Good start (After p (global g))
+  unfolding add
+  global-good p g v h =
+      let q = global-kept start o (p .seen) g (p .state) (h .types) (h .referring) (h .remaps) (v .good) (v .type) (v .init) (h .read) (h .sound) in
+      record {
+        sound = q .sound;
+        read = read-more (q .grew) (h .read);
+        types = h .types;
+        referring = h .referring;
+        remaps = h .remaps;
+        told = λ i x f. told-more i (shapeOf (x .inner)) (p .state .types) (declareGlobal o (p .seen) g (p .state) .types) (q .grew .more) (h .told i x f);
+      }
+
+  pub entry-kept : (p : Progress) (e : Entry) → GoodEntry (p .seen) e → Good start p → Good start (After p e)
+  unfolding add
+  entry-kept p (available cs) g h = record { sound = h .sound; read = h .read; types = h .types; referring = h .referring; remaps = h .remaps; told = h .told }
+  entry-kept p (remap m) g h = record { sound = h .sound; read = h .read; types = h .types; referring = h .referring; remaps = remaps-snoc (p .seen .remaps) m (h .remaps) g; told = h .told }
+  entry-kept p (type t) g h = type-good p t g h
+  entry-kept p (constant e) g h = constant-good p e g h
+  entry-kept p (global g) v h = global-good p g v h
+
+-- a record that passes
+pub record-kept : (start : ℕ) (o : Options) (p : Progress) (r : Record) → recordTest p r ≡ 0 → Under 255 (r .body) → length (r .body) ≤ 16384 → Good start p → Good start (declareRecord o p r)
+unfolding recordTest declareRecord addRecord
+record-kept start o p r t u few h =
+    let a = first-passed (readingTest (p .seen) r) (fitnessTest (p .seen) (p .state) (entryOf r .value)) t in
+    entry-kept start o (tagRank (r .tag)) p (entryOf r .value) (entry-good r u few (p .seen) (reading-passed (p .seen) r (a .0))) h
+
+-- ---- all records: what each keeps, they keep
+
+module _ {S : Type 0} (test : S → Record → ℕ) (step : S → Record → S) (Inv : S → Type 0)
+    (kept : (s : S) (r : Record) → test s r ≡ 0 → Under 255 (r .body) → length (r .body) ≤ 16384 → Inv s → Inv (step s r)) where
+  pub records-kept : (fuel : ℕ) (rest : List ℕ) (s q : S) → Under 255 rest → length rest ≤ 16384 → Inv s → records test step fuel rest s ≡ fit q → Inv q
+  unfolding records recordAt afterRecord
+  records-kept zero rest s q u few h e = subst Inv (let f : fit s ≡ fit q = e in cc) h
+  records-kept (suc fuel) rest s q u few h e =
+      go (eqb (length rest) 0) (noRecord rest) (test s (recordAt rest)) refl e
+      (λ t. records-kept fuel (drop (2 + u16At rest 0) rest) (step s (recordAt rest)) q (under-drop 255 (2 + u16At rest 0) rest u) (omega (arith, length-drop (2 + u16At rest 0) rest))
+      (kept s (recordAt rest) t (under-take 255 (u16At rest 0 - 1) (drop 3 rest) (under-drop 255 3 rest u)) (omega (arith, length-take (u16At rest 0 - 1) (drop 3 rest), length-drop 3 rest)) h))
+    where
+      go : (a b : Bool) (n : ℕ) → test s (recordAt rest) ≡ n → pick a (fit s) (pick b (refused 4) (judge n (records test step fuel (drop (2 + u16At rest 0) rest) (step s (recordAt rest))))) ≡ fit q
+          → (test s (recordAt rest) ≡ 0 → records test step fuel (drop (2 + u16At rest 0) rest) (step s (recordAt rest)) ≡ fit q → Inv q) → Inv q
+      go true b n t e f = subst Inv (let g : fit s ≡ fit q = e in cc) h
+      go false true n t e f = let g : refused 4 ≡ fit q = e in let z : _≡_ {A = ℕ} 0 1 = cc in absurd (omega arith)
+      go false false zero t e f = f t e
+      go false false (suc n) t e f = let g : refused (suc n) ≡ fit q = e in let z : _≡_ {A = ℕ} 0 1 = cc in absurd (omega arith)
+
+-- ---- a sheet that is fit
+
+under-bytes : (s : List ℕ) → IsBytes s → Under 255 s
+under-bytes [] h = tt
+under-bytes (x ∷ xs) h = (omega (arith, h x (List·Memᴰ·head refl)), under-bytes xs (λ b m. h b (List·Memᴰ·tail m)))
+
+pub record FitSheet (s : List ℕ) (p : Progress) : Type 0 where
+  pub good : Good (startOf s) p
+  pub low : boundOf (p .state) ≤ boundMost
+
+pub fit-sheet : (s : List ℕ) → IsBytes s → (p : Progress) → judged s ≡ fit p → FitSheet s p
+unfolding judged headerTest
+fit-sheet s bytes p e = outer (headerTest s) refl (records recordTest (declareRecord (optionsOf (flagsOf s))) (length s) (drop headerLength s) (begin (startOf s))) refl e
+  where
+    size : headerTest s ≡ 0 → length s ≤ 16384
+    size t =
+        let a = unless-passed (within sheetLeast sheetMost (length s)) 0 _ t in
+        leb→le (length s) sheetMost (both-true (leb sheetLeast (length s)) (leb (length s) sheetMost) (a .0) .1)
+
+    all : headerTest s ≡ 0 → (q : Progress) → records recordTest (declareRecord (optionsOf (flagsOf s))) (length s) (drop headerLength s) (begin (startOf s)) ≡ fit q → Good (startOf s) q
+    all t q f =
+        records-kept recordTest (declareRecord (optionsOf (flagsOf s))) (Good (startOf s)) (record-kept (startOf s) (optionsOf (flagsOf s))) (length s) (drop headerLength s) (begin (startOf s)) q
+        (under-drop 255 headerLength s (under-bytes s bytes)) (omega (arith, length-drop headerLength s, size t)) (begin-good (startOf s)) f
+
+    bound : (q : Progress) (b : Bool) → leb (boundOf (q .state)) boundMost ≡ b → pick b (fit q) (refused 15) ≡ fit p → Good (startOf s) q → FitSheet s p
+    bound q true l f g =
+        let x : q ≡ p = cc in
+        subst (FitSheet s) x (record { good = g; low = leb→le (boundOf (q .state)) boundMost (rw l tt) })
+    bound q false l f g = let z : _≡_ {A = ℕ} 0 1 = cc in absurd (omega arith)
+
+    outer : (n : ℕ) → headerTest s ≡ n → (j : Judged Progress) → records recordTest (declareRecord (optionsOf (flagsOf s))) (length s) (drop headerLength s) (begin (startOf s)) ≡ j → boundTest (judge n j) ≡ fit p → FitSheet s p
+    outer zero t (refused m) f g = let z : _≡_ {A = ℕ} 0 1 = cc in absurd (omega arith)
+    outer zero t (fit q) f g = bound q (leb (boundOf (q .state)) boundMost) refl g (all t q f)
+    outer (suc n) t j f g = let z : _≡_ {A = ℕ} 0 1 = cc in absurd (omega arith)

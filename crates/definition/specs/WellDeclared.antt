@@ -1,0 +1,158 @@
+-- Demand 3, of what a reader finds in the words ("Demand 3's words" and the mission's third demand), one field a clause.
+use Prim.Native.Nat.{ℕ, suc, zero, _+_, _*_, _<_, _≤_, min}
+use mathlib.Core.Bool.{Bool, true, false, _&&_}
+use mathlib.Core.List.{List, [], _∷_, _++_, List·Memᴰ}
+use mathlib.Core.Logic.{_↔_}
+use mathlib.Core.Option.{Option, some, none}
+use mathlib.Core.Path.{_≡_}
+use lib.Dec.{eqb, T}
+use lib.ListN.{getElem?}
+use Rattle.definition.specs.Choice.{pick, among}
+use Rattle.definition.specs.Numbers.{OpName, OpMemberName, OpCapability, OpTypeBool, OpTypeInt, OpTypeFloat, OpTypeVector, OpTypeMatrix, OpTypeImage, OpTypeSampler, OpDecorate, OpMemberDecorate, OpTypeRayQueryKHR, OpTypeAccelerationStructureKHR}
+use Rattle.definition.specs.Numbers.{CapabilityFloat64, CapabilityInt64, CapabilityInt16, CapabilityInt8, CapabilityRayQueryKHR}
+use Rattle.definition.specs.Instructions.{Instruction}
+use Rattle.definition.specs.Reader.{layoutOf, idsAmong, uses, Module, readModule}
+use Rattle.definition.specs.Sheet.{TypeEntry, startOf}
+use Rattle.definition.specs.Shapes.{Shape, shapeOf, inner, opcodeOf, typeOf, entry, shape}
+use Rattle.definition.specs.State.{State, same, occurrences, idOf, moduleWords}
+use Rattle.definition.specs.Finding.{formatCapabilities, dimCapabilities}
+use Rattle.definition.specs.Tests.{Judged, fit}
+use Rattle.definition.specs.Operations.{Progress, judged}
+
+-- ---- "an instruction with a result id declares it"
+
+abbrev pub once : Option ℕ → ℕ → ℕ
+once none i = 0
+once (some r) i = same i r
+
+-- how often an id is declared
+unfoldable pub times : ℕ → List Instruction → ℕ
+times i [] = 0
+times i (x ∷ xs) = once (x .result) i + times i xs
+
+abbrev pub declaring : Option ℕ → Bool
+declaring none = false
+declaring (some r) = true
+
+-- ---- ".. and uses its other id operands, result type included": every declaration uses only ids declared above it
+
+abbrev pub UsesDeclared : List Instruction → Instruction → Type 0
+UsesDeclared above i = T (declaring (i .result)) → (u : ℕ) → List·Memᴰ u (uses i) → 1 ≤ times u above
+
+abbrev pub Above : List Instruction → List Instruction → Type 0
+Above above [] = Unit
+Above above (i ∷ is) = UsesDeclared above i × Above (above ++ i ∷ []) is
+
+-- ---- names and decorations: what they stand on
+
+abbrev pub marks : ℕ → Bool
+marks o = among o (OpName ∷ OpMemberName ∷ OpDecorate ∷ OpMemberDecorate ∷ [])
+
+unfoldable pub targetOf : Instruction → List ℕ
+targetOf i = pick (marks (i .opcode)) (idsAmong (layoutOf (i .opcode) .operands) (i .operands)) []
+
+unfoldable pub targets : List Instruction → List ℕ
+targets [] = []
+targets (i ∷ is) = targetOf i ++ targets is
+
+-- ---- capabilities: listed, and "needed exactly if these rules give it to a declared type"
+
+unfoldable pub listedBy : Instruction → List ℕ
+listedBy i = pick (eqb (i .opcode) OpCapability) (i .operands) []
+
+unfoldable pub listedIn : List Instruction → List ℕ
+listedIn [] = []
+listedIn (i ∷ is) = listedBy i ++ listedIn is
+
+-- "integers of 8, 16, 64 bits .. and 64-bit floats"; the first operand is the width in bits
+abbrev pub intNeeds : List ℕ → List ℕ
+intNeeds [] = []
+intNeeds (bits ∷ xs) = pick (eqb bits 8) (CapabilityInt8 ∷ []) (pick (eqb bits 16) (CapabilityInt16 ∷ []) (pick (eqb bits 64) (CapabilityInt64 ∷ []) []))
+
+abbrev pub floatNeeds : List ℕ → List ℕ
+floatNeeds [] = []
+floatNeeds (bits ∷ xs) = pick (eqb bits 64) (CapabilityFloat64 ∷ []) []
+
+-- sampled type, dim, depth, arrayed, multisampled, sampled, format
+abbrev pub imageNeeds : List ℕ → List ℕ
+imageNeeds (t ∷ (d ∷ (p ∷ (a ∷ (m ∷ (s ∷ (f ∷ xs))))))) = formatCapabilities f ++ dimCapabilities d a s
+imageNeeds (t ∷ (d ∷ (p ∷ (a ∷ (m ∷ (s ∷ [])))))) = []
+imageNeeds (t ∷ (d ∷ (p ∷ (a ∷ (m ∷ []))))) = []
+imageNeeds (t ∷ (d ∷ (p ∷ (a ∷ [])))) = []
+imageNeeds (t ∷ (d ∷ (p ∷ []))) = []
+imageNeeds (t ∷ (d ∷ [])) = []
+imageNeeds (t ∷ []) = []
+imageNeeds [] = []
+
+unfoldable pub needs : Instruction → List ℕ
+needs i =
+    pick (eqb (i .opcode) OpTypeInt) (intNeeds (i .operands))
+    (pick (eqb (i .opcode) OpTypeFloat) (floatNeeds (i .operands))
+    (pick (eqb (i .opcode) OpTypeImage) (imageNeeds (i .operands))
+    (pick (among (i .opcode) (OpTypeAccelerationStructureKHR ∷ OpTypeRayQueryKHR ∷ [])) (CapabilityRayQueryKHR ∷ []) [])))
+
+-- how often a capability is needed
+unfoldable pub needed : ℕ → List Instruction → ℕ
+needed c [] = 0
+needed c (i ∷ is) = occurrences c (needs i) + needed c is
+
+-- ---- "no two type declarations, aggregates and pointers apart, that are equal in opcode and in all operands but their own id"
+
+-- types but aggregates and pointers
+abbrev pub plainType : ℕ → Bool
+plainType o = among o (OpTypeBool ∷ OpTypeInt ∷ OpTypeFloat ∷ OpTypeVector ∷ OpTypeMatrix ∷ OpTypeImage ∷ OpTypeSampler ∷ OpTypeAccelerationStructureKHR ∷ OpTypeRayQueryKHR ∷ [])
+
+pub record Twins (i j : Instruction) : Type 0 where
+  pub plain : T (plainType (i .opcode))
+  pub opcode : i .opcode ≡ j .opcode
+  pub operands : i .operands ≡ j .operands
+
+abbrev pub NoTwins : List Instruction → Type 0
+NoTwins [] = Unit
+NoTwins (i ∷ is) = ((j : Instruction) → List·Memᴰ j is → Twins i j → ⊥) × NoTwins is
+
+-- ---- what a reader finds declared
+
+pub record WellDeclared (start bound : ℕ) (is : List Instruction) : Type 0 where
+  -- "declared exactly the ids above the sheet's start and below the bound, each once"
+  pub each-once : (i : ℕ) → start < i → i < bound → times i is ≡ 1
+  pub no-other : (i : ℕ) → 1 ≤ times i is → (start < i) × (i < bound)
+  -- "every declaration using only ids declared above it"
+  pub above : Above [] is
+  -- "every name and decoration on a declared id"
+  pub on-declared : (t : ℕ) → List·Memᴰ t (targets is) → times t is ≡ 1
+  -- "listed exactly the capabilities needed by document 01's capability rules, each once"
+  pub capabilities : (c : ℕ) → occurrences c (listedIn is) ≡ min 1 (needed c is)
+  -- "no two type declarations .. equal"
+  pub no-twins : NoTwins is
+
+-- ---- "the words declare its shape under that id", all the way down
+
+pub data Declares (is : List Instruction) : Shape → ℕ → Type 0 where
+  alone : {l : Shape} {id : ℕ} → inner l ≡ none → List·Memᴰ (typeOf l id 0 0) is → Declares is l id
+  over : {l m : Shape} {id x : ℕ} → inner l ≡ some (shape m) → List·Memᴰ (typeOf l id x 0) is → Declares is m x → Declares is l id
+
+-- the entry with an index is of a shape
+abbrev pub HasShape : List TypeEntry → ℕ → Shape → Type 0
+HasShape ts h l = (t : TypeEntry) × (getElem? ts h ≡ some t) × (shapeOf (t .inner) ≡ some l) × T (plainType (opcodeOf l))
+
+-- "Two entries of such types get one id exactly when their shapes are equal, an entry's id being the one document 01's rules give
+-- it, and the words declare its shape under that id."
+pub record EntriesDeclared (ts : List TypeEntry) (s : State) (is : List Instruction) : Type 0 where
+  pub shared : (h g : ℕ) (l m : Shape) (i j : ℕ) → HasShape ts h l → HasShape ts g m → idOf s (entry h) ≡ some i → idOf s (entry g) ≡ some j → (i ≡ j) ↔ (l ≡ m)
+  pub declared : (h : ℕ) (l : Shape) → HasShape ts h l → (i : ℕ) × (idOf s (entry h) ≡ some i) × Declares is l i
+
+-- ---- demand 3, whole: "Whatever sheet Declare accepts, whoever reads its words by that specification finds .."
+
+pub record Found (s : List ℕ) (p : Progress) : Type 0 where
+  pub found : Module
+  pub reads : readModule (moduleWords (p .state)) ≡ some found
+  pub well : WellDeclared (startOf s) (found .bound) (found .instructions)
+  pub entries : EntriesDeclared (p .seen .types) (p .state) (found .instructions)
+
+-- bytes are bytes
+abbrev pub IsBytes : List ℕ → Type 0
+IsBytes s = (b : ℕ) → List·Memᴰ b s → b < 256
+
+abbrev pub Demand3 : Type 0
+Demand3 = (s : List ℕ) → IsBytes s → (p : Progress) → judged s ≡ fit p → Found s p

@@ -1,0 +1,4 @@
+pub mod Puts
+pub mod Packed
+pub mod Heads
+pub mod Spaces

@@ -1,0 +1,78 @@
+-- `put_name` meets its contract, as `put_list` does. What stands behind the head are the packed words, a quarter of the bytes and
+-- one more by `packed-length`.
+use Prim.Native.Nat.{ℕ, _+_, _/_}
+use mathlib.Core.List.{_++_}
+use native.Mathlib.Omega.{arith}
+use lib.ListN.{length, length-append}
+use borrow.Author.Needs.{needs}
+use Rattle.definition.specs.Instructions.{packed}
+use Rattle.spirv.specs.Heads.{head}
+use Rattle.spirv.proofs.Puts.{behind}
+use Rattle.spirv.proofs.Packed.{packed-length}
+use Rattle.spirv.proofs.Heads.{as-plain, no-room}
+use Rattle.spirv.proofs.layout.put_name.Statement.{statement}
+use Rattle.spirv.proofs.layout.put_name.Tie as tie
+
+add-at : tie.Need-add-at
+add-at c = search needs
+
+add-n : tie.Need-add-n
+add-n c = search needs
+
+add-n-2 : tie.Need-add-n-2
+add-n-2 c = search needs
+
+returns : tie.Need-returns
+returns c =
+    let a = c .before .before .before .before .args in
+    let l = packed-length (a .bytes .now) in
+    no-room (a .op) (length (a .operands .now) + 1 + (length (a .bytes .now) / 4 + 1)) (a .operands .now ++ packed (a .bytes .now)) (a .sink .now) (simp length-append (omega arith)) (c .if1 .taken)
+
+put-head-requires : tie.Need-put-head-requires
+put-head-requires c κs = search needs
+
+mul-string-to-words : tie.Need-mul-string-to-words
+mul-string-to-words c = search needs
+
+sub-string-to-words : tie.Need-sub-string-to-words
+sub-string-to-words c = search needs
+
+part-string-to-words-start : tie.Need-part-string-to-words-start
+part-string-to-words-start c = search needs
+
+part-string-to-words-end : tie.Need-part-string-to-words-end
+part-string-to-words-end c = search needs
+
+string-to-words-requires : tie.Need-string-to-words-requires
+string-to-words-requires c κs = search needs
+
+same-length : tie.Need-same-length
+same-length c = search needs
+
+returns-2 : tie.Need-returns-2
+returns-2 c =
+    let a = c .before .before .before .before .before .before .before .before .before .before .before .before .args in
+    let w = c .before .before .before .before .before .before .put-head in
+    let z = c .before .before .string-to-words in
+    let l = packed-length (a .bytes .now) in
+    let at : ℕ = length (a .operands .now) + 1 in
+    let n : ℕ = at + (length (a .bytes .now) / 4 + 1) in
+    as-plain (a .op) (a .operands .now ++ packed (a .bytes .now)) n (simp length-append (omega arith))
+    (behind (head n (a .op) (a .operands .now)) (packed (a .bytes .now)) (a .sink .now) (w .last .0) (z .last .0) (w .result) at (z .result) n (w .ensures) (omega arith) (z .ensures) (omega arith) (c .before .before .before .before .before .before .before .before .if1 .left))
+
+pub put-name-spec : {M : Type 1} → statement M
+put-name-spec =
+    tie.close
+    (tie.spec
+    add-at
+    add-n
+    add-n-2
+    returns
+    put-head-requires
+    mul-string-to-words
+    sub-string-to-words
+    part-string-to-words-start
+    part-string-to-words-end
+    string-to-words-requires
+    same-length
+    returns-2)

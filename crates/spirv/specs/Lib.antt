@@ -1,0 +1,7 @@
+pub mod Put
+pub mod Bytes
+pub mod Heads
+pub mod Sections
+pub mod Space
+pub mod Initializer
+pub mod Ids

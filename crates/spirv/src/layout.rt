@@ -1,0 +1,139 @@
+// An instruction's words, the module's header, and its sections one behind the other.
+ghost use mathlib.Core.Path.{_≡_};
+ghost use mathlib.Core.List.{_++_};
+ghost use Prim.Native.Nat.{_+_, _≤_, _<_};
+ghost use lib.ListN.{length, getD, drop};
+ghost use Rattle.definition.specs.Instructions.{words, packed, plain, typeOp, valueOp, header};
+ghost use Rattle.spirv.specs.Put.{Put, Few};
+ghost use Rattle.spirv.specs.Heads.{head};
+ghost use Rattle.spirv.specs.Sections.{Spliced, Room, sections};
+use crate::helpers::string_to_words;
+use crate::words::put_words;
+
+const MAGIC_NUMBER: u32 = 0x07230203;
+
+const VERSION: u32 = 0x00010300;
+
+const GENERATOR: u32 = 28;
+
+// What an instruction of so many words begins with: its first word, and its first operands.
+pub fn put_head(sink: &mut [u32], count: usize, op: u32, operands: &[u32]) -> usize
+    requires { ⌜ (count < 65536) × (op < 65536) ⌝ }
+    ensures { λ r. ⌜ Put (head count op (now (operands .entry))) (now (sink .entry)) (now (sink .exit)) r ⌝ }
+{
+    let n = operands.len() + 1;
+    if sink.len() < n {
+        return 0;
+    }
+    let first = 65536 * (count as u32) + op;
+    put_words(sink, &[first]);
+    put_words(&mut sink[1..], operands);
+    n
+}
+
+// An instruction that gives no id.
+pub fn put_plain(sink: &mut [u32], op: u32, operands: &[u32]) -> usize
+    requires { ⌜ (op < 65536) × Few (now operands) ⌝ }
+    ensures { λ r. ⌜ Put (words (plain op (now (operands .entry)))) (now (sink .entry)) (now (sink .exit)) r ⌝ }
+{
+    put_head(sink, operands.len() + 1, op, operands)
+}
+
+// An instruction whose first operand is the id that it gives to a type.
+pub fn put_type(sink: &mut [u32], op: u32, operands: &[u32]) -> usize
+    requires { ⌜ (op < 65536) × Few (now operands) × (1 ≤ length (now operands)) ⌝ }
+    ensures { λ r. ⌜ Put (words (typeOp op (getD (now (operands .entry)) 0 0) (drop 1 (now (operands .entry))))) (now (sink .entry)) (now (sink .exit)) r ⌝ }
+{
+    put_plain(sink, op, operands)
+}
+
+// An instruction whose first operands are a type's id and the id that it gives to a value.
+pub fn put_value(sink: &mut [u32], op: u32, operands: &[u32]) -> usize
+    requires { ⌜ (op < 65536) × Few (now operands) × (2 ≤ length (now operands)) ⌝ }
+    ensures { λ r. ⌜ Put (words (valueOp op (getD (now (operands .entry)) 0 0) (getD (now (operands .entry)) 1 0) (drop 2 (now (operands .entry))))) (now (sink .entry)) (now (sink .exit)) r ⌝ }
+{
+    put_plain(sink, op, operands)
+}
+
+// An instruction with a list of any length behind its first operands.
+pub fn put_list(sink: &mut [u32], op: u32, operands: &[u32], rest: &[u32]) -> usize
+    requires { ⌜ (op < 65536) × (length (now operands) < 4) × Few (now rest) ⌝ }
+    ensures { λ r. ⌜ Put (words (plain op (now (operands .entry) ++ now (rest .entry)))) (now (sink .entry)) (now (sink .exit)) r ⌝ }
+{
+    let at = operands.len() + 1;
+    let n = at + rest.len();
+    if sink.len() < n {
+        return 0;
+    }
+    put_head(sink, n, op, operands);
+    put_words(&mut sink[at..], rest);
+    n
+}
+
+// An instruction with a string behind its first operands.
+pub fn put_name(sink: &mut [u32], op: u32, operands: &[u32], bytes: &[u8]) -> usize
+    requires { ⌜ (op < 65536) × (length (now operands) < 4) × Few (now bytes) ⌝ }
+    ensures { λ r. ⌜ Put (words (plain op (now (operands .entry) ++ packed (now (bytes .entry))))) (now (sink .entry)) (now (sink .exit)) r ⌝ }
+{
+    let at = operands.len() + 1;
+    let n = at + (bytes.len() / 4 + 1);
+    if sink.len() < n {
+        return 0;
+    }
+    put_head(sink, n, op, operands);
+    string_to_words(&mut sink[at..], bytes);
+    n
+}
+
+// The module's header; all but the bound is the same in each.
+pub struct PhysicalLayout {
+    pub bound: u32,
+}
+
+impl PhysicalLayout {
+    pub fn in_words(self, sink: &mut [u32]) -> usize
+        ensures { λ r. ⌜ Put (header (self .bound)) (now (sink .entry)) (now (sink .exit)) r ⌝ }
+    {
+        put_words(sink, &[MAGIC_NUMBER, VERSION, GENERATOR, self.bound, 0])
+    }
+}
+
+// Lends what is left of the buffer from a place on to the writer of a section's first n words, and gives the place behind them.
+pub fn section(out: &mut [u32], at: usize, src: &[u32], n: usize) -> usize
+    requires { ⌜ (at + n ≤ length (now out)) × (n ≤ length (now src)) ⌝ }
+    ensures { λ r. ⌜ Spliced (now (out .entry)) at (now (src .entry)) n (now (out .exit)) r ⌝ }
+{
+    put_words(&mut out[at..], &src[..n]);
+    at + n
+}
+
+// How many words of each section are in use.
+pub struct LogicalLayout {
+    pub capabilities: usize,
+    pub debugs: usize,
+    pub annotations: usize,
+    pub declarations: usize,
+}
+
+impl LogicalLayout {
+    pub fn in_words(
+        self,
+        sink: &mut [u32],
+        capabilities: &[u32],
+        debugs: &[u32],
+        annotations: &[u32],
+        declarations: &[u32],
+    ) -> usize
+        requires { ⌜ Room self (now capabilities) (now debugs) (now annotations) (now declarations) (now sink) ⌝ }
+        ensures { λ r. ⌜ Put (sections self (now (capabilities .entry)) (now (debugs .entry)) (now (annotations .entry)) (now (declarations .entry))) (now (sink .entry)) (now (sink .exit)) r ⌝ }
+    {
+        let c = self.capabilities;
+        let d = self.debugs;
+        let a = self.annotations;
+        let e = self.declarations;
+        let first = section(sink, 0, capabilities, c);
+        let second = section(sink, first, debugs, d);
+        let third = section(sink, second, annotations, a);
+        section(sink, third, declarations, e)
+    }
+}

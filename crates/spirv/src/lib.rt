@@ -1,0 +1,33 @@
+// What the SPIR-V back end writes with: packed strings, storage classes, the instructions of document 01's rules, ids, and
+// the module's layout. Words go to the front of what is left of a buffer that the caller lends.
+pub mod helpers;
+pub mod instructions;
+pub mod layout;
+pub mod layouter;
+pub mod words;
+
+ghost use Prim.Native.Nat.{_^_, _<_};
+ghost use Rattle.spirv.specs.Ids.{Next};
+
+// Hands out ids. The last id given out is held in 64 bits: a sheet may say that ids up to 2^32 - 1 are given out already, and
+// its records are judged before the bound is, so the count must be able to pass 32 bits and not wrap.
+pub struct IdGenerator {
+    pub last: u64,
+}
+
+// An id, and the generator moved on past it.
+pub struct NextId {
+    pub id: u64,
+    pub idgen: IdGenerator,
+}
+
+impl IdGenerator {
+    pub fn next(mut self) -> NextId
+        requires { ⌜ self .last < 2 ^ 63 ⌝ }
+        ensures { λ r. ⌜ Next (self .last) r ⌝ }
+    {
+        self.last += 1;
+        let id = self.last;
+        NextId { id, idgen: self }
+    }
+}

@@ -1,0 +1,284 @@
+//! The comparison: the reference's answers, worked out once for all cases, held
+//! against the second reading.
+
+use crate::faults::{Fault, FAULTS};
+use crate::generator::{self, Case, Expect, Random};
+use crate::lines::{self, Line};
+use crate::reached::Reached;
+use crate::reference;
+use crate::second::{self, Refusal};
+use crate::sheet::{HEADER, MAX_BOUND};
+
+pub const SEED: u64 = 0x0907_0004_1943_0300;
+
+/// What a sheet has to be answered with.
+enum Expected {
+    /// The Rust's words, and for each global whether it is wrapped.
+    Module { words: Vec<u32>, wrapped: Vec<bool> },
+    /// By number and, where the Rust gives it, by record.
+    Refused { number: u8, record: Option<usize> },
+    /// Bytes changed at random, where only the second reading has an opinion: it
+    /// judges another program, never the second reading itself.
+    Opinion(u8),
+}
+
+struct Asked {
+    sheet: Vec<u8>,
+    expected: Expected,
+}
+
+fn ask_reference(sheet: &[u8]) -> Option<Expected> {
+    match std::panic::catch_unwind(|| reference::run(sheet)) {
+        Ok(reference::Answer::Module(words, wrapped)) => Some(Expected::Module { words, wrapped }),
+        Ok(reference::Answer::Missing(record)) => {
+            Some(Expected::Refused { number: 14, record: Some(record) })
+        }
+        Err(_) => {
+            println!("the reference panics on {}", lines::hex(sheet));
+            None
+        }
+    }
+}
+
+/// Where a record of this index ends.
+fn end_of_record(sheet: &[u8], index: usize) -> usize {
+    let mut at = HEADER;
+    for _ in 0..=index {
+        at += 2 + u16::from_be_bytes([sheet[at], sheet[at + 1]]) as usize;
+    }
+    at
+}
+
+/// Every case of a run: families, edges, then `count` random ones.
+fn cases(count: usize) -> Vec<Case> {
+    let mut random = Random(SEED);
+    let mut cases = generator::families(&mut random);
+    let bound_of = |sheet: &[u8]| match reference::run(sheet) {
+        reference::Answer::Module(words, _) => Some(words[3]),
+        reference::Answer::Missing(_) => None,
+    };
+    cases.extend(generator::edges(&mut random, &bound_of));
+    for number in generator::DAMAGES {
+        cases.extend((0..20).map(|_| generator::damaged_as(&mut random, number)));
+    }
+    for n in 0..count {
+        cases.push(match n % 5 {
+            0 => generator::damaged(&mut random),
+            1 => generator::changed(&mut random),
+            _ => {
+                let aim = generator::aim(&mut random);
+                let sheet = generator::valid(&mut random, aim).encode();
+                Case { sheet, expect: Expect::Domain }
+            }
+        });
+    }
+    cases
+}
+
+/// The expected answers. A sheet that misses a capability is also asked cut off
+/// behind the refused record and before it, so that a program that answers a
+/// number alone is held to the record as well. None if the reference panics, which
+/// it must not in its domain.
+fn asked(cases: Vec<Case>) -> Option<Vec<Asked>> {
+    let mut out = Vec::new();
+    for Case { sheet, expect } in cases {
+        let expected = match expect {
+            Expect::Refused(number) => Expected::Refused { number, record: None },
+            Expect::Domain => ask_reference(&sheet)?,
+            Expect::Unknown => match second::check(&sheet, None) {
+                Err(r) if r.number != 14 || lines::start_of(&sheet) >= MAX_BOUND => {
+                    Expected::Opinion(r.number)
+                }
+                _ => ask_reference(&sheet)?,
+            },
+        };
+        if let Expected::Refused { number: 14, record: Some(record) } = expected {
+            let behind = sheet[..end_of_record(&sheet, record)].to_vec();
+            let before = match record {
+                0 => HEADER,
+                _ => end_of_record(&sheet, record - 1),
+            };
+            let before = sheet[..before].to_vec();
+            for cut in [behind, before] {
+                let expected = ask_reference(&cut)?;
+                out.push(Asked { sheet: cut, expected });
+            }
+        }
+        out.push(Asked { sheet, expected });
+    }
+    Some(out)
+}
+
+/// How the second reading differs from what is expected, if it does.
+fn difference(asked: &Asked, fault: Option<Fault>) -> Option<String> {
+    let sheet = &asked.sheet;
+    let refused = |r: &Refusal| match r.record {
+        Some(record) => format!("refused {} at record {record}", r.number),
+        None => format!("refused {}", r.number),
+    };
+    match (&asked.expected, second::check(sheet, fault)) {
+        (&Expected::Refused { number, record }, Err(r)) => {
+            let same = r.number == number && (record.is_none() || r.record == record);
+            (!same).then(|| format!("expected is {number} at {record:?}, not {}", refused(&r)))
+        }
+        (&Expected::Refused { number, .. }, Ok(_)) => {
+            Some(format!("expected is refused {number}, not words"))
+        }
+        (Expected::Opinion(_), _) => None,
+        (Expected::Module { .. }, Err(r)) => {
+            Some(format!("expected are words, not {}", refused(&r)))
+        }
+        (Expected::Module { words, wrapped }, Ok(s)) => {
+            let own = s.words();
+            if own != *words {
+                let at = own.iter().zip(words).take_while(|(a, b)| a == b).count();
+                return Some(format!("words differ from word {at} on"));
+            }
+            (s.wrappers() != *wrapped).then(|| "Wrapped differs".to_string())
+        }
+    }
+}
+
+/// Declare's and Wrapped's own refusals beside an accepted sheet.
+fn own_refusals(asked: &Asked) -> Option<String> {
+    let Expected::Module { words, wrapped } = &asked.expected else { return None };
+    let number = |r: Result<_, Refusal>| r.map_err(|r| r.number);
+    let short = second::declare(&asked.sheet, words.len() - 1, None).map(|_| ());
+    let exact = second::declare(&asked.sheet, words.len(), None).map(|_| ());
+    let beyond = second::wrapped(&asked.sheet, wrapped.len(), None).map(|_| ());
+    let good = (number(short), number(exact), number(beyond)) == (Err(16), Ok(()), Err(17));
+    (!good).then(|| "16 or 17 is not where it belongs".to_string())
+}
+
+/// The whole comparison; true if nothing differs and everything was reached.
+pub fn run(count: usize) -> bool {
+    let Some(all) = asked(cases(count)) else { return false };
+    let mut reached = Reached::default();
+    let mut lengths = Vec::new();
+    let (mut missing, mut differences) = (0, 0);
+    for one in &all {
+        match &one.expected {
+            Expected::Module { words, .. } => {
+                lengths.push(words.len());
+                reached.accepted(&one.sheet);
+                reached.refusal(16);
+                reached.refusal(17);
+            }
+            Expected::Refused { number, record } => {
+                missing += record.is_some() as usize;
+                reached.refusal(*number);
+            }
+            Expected::Opinion(_) => {}
+        }
+        if let Some(what) = difference(one, None).or_else(|| own_refusals(one)) {
+            differences += 1;
+            if differences <= 5 {
+                println!("{what}\n  {}", lines::hex(&one.sheet));
+            }
+        }
+    }
+    let complete = reached.report();
+    println!(
+        "{} sheets from seed {SEED:#018x}; held against the Rust: {} modules of {} words, the \
+         largest of {}, and {missing} missing capabilities; {differences} differences",
+        all.len(),
+        lengths.len(),
+        lengths.iter().sum::<usize>(),
+        lengths.iter().max().unwrap_or(&0),
+    );
+    complete && differences == 0
+}
+
+/// Plants each fault in turn and looks for the shortest sheet of a run that shows
+/// it; true if each is reported.
+pub fn faults(count: usize) -> bool {
+    let Some(mut all) = asked(cases(count)) else { return false };
+    all.sort_by_key(|a| a.sheet.len());
+    report_faults(|fault| {
+        all.iter().find(|a| difference(a, Some(fault)).is_some()).map(|a| lines::hex(&a.sheet))
+    })
+}
+
+/// The same with stored lines, which other programs replay.
+pub fn faults_of_lines(mut stored: Vec<Line>) -> bool {
+    stored.sort_by_key(|line| line.sheet.len());
+    report_faults(|fault| {
+        let wrong = |l: &&Line| lines::second_answer(&l.sheet, l.question, Some(fault)) != l.answer;
+        stored.iter().find(wrong).map(Line::asks)
+    })
+}
+
+fn report_faults(shown_by: impl Fn(Fault) -> Option<String>) -> bool {
+    let mut silent = 0;
+    for (number, &(fault, what)) in FAULTS.iter().enumerate() {
+        match shown_by(fault) {
+            Some(sheet) => println!("{:2} reported: {what}\n   by {sheet}", number + 1),
+            None => {
+                silent += 1;
+                println!("{:2} NOT REPORTED: {what}", number + 1);
+            }
+        }
+    }
+    println!("{} faults planted, {} reported", FAULTS.len(), FAULTS.len() - silent);
+    silent == 0
+}
+
+/// The sheets of a run as lines, for another program to answer.
+pub fn print_lines(count: usize) -> bool {
+    let Some(all) = asked(cases(count)) else { return false };
+    for one in &all {
+        println!("{}", line(one));
+    }
+    true
+}
+
+/// A sheet with what is expected of a program that lends Declare 16,384 words.
+fn line(one: &Asked) -> String {
+    let answer = match &one.expected {
+        Expected::Module { words, .. } if words.len() > lines::LENT => lines::refused(16),
+        Expected::Module { words, .. } => lines::show_words(words),
+        Expected::Refused { number, .. } | Expected::Opinion(number) => lines::refused(*number),
+    };
+    format!("{} | {answer}", lines::hex(&one.sheet))
+}
+
+/// The stored sample, all of the comparison's domain: for each fault the shortest
+/// sheet that shows it, then sheets spread evenly over the families and over random
+/// ones, short ones and a few long ones.
+pub fn print_sample() -> bool {
+    let families = cases(0).len();
+    let mut cases = cases(6_000);
+    let random = cases.split_off(families);
+    let (Some(mut families), Some(mut random)) = (asked(cases), asked(random)) else {
+        return false;
+    };
+    let by_rust = |one: &Asked| match &one.expected {
+        Expected::Module { .. } => true,
+        Expected::Refused { record, .. } => record.is_some(),
+        Expected::Opinion(_) => false,
+    };
+    families.retain(by_rust);
+    random.retain(by_rust);
+
+    let mut shortest: Vec<&Asked> = families.iter().chain(&random).collect();
+    shortest.sort_by_key(|one| one.sheet.len());
+    for &(fault, what) in FAULTS {
+        if let Some(one) = shortest.iter().find(|one| difference(one, Some(fault)).is_some()) {
+            println!("# not so: {what}\n{}", line(one));
+        }
+    }
+    let spread = |all: &[Asked], count: usize, lengths: std::ops::Range<usize>| {
+        let fitting: Vec<String> =
+            all.iter().map(line).filter(|l| lengths.contains(&l.len())).collect();
+        for n in 0..count {
+            println!("{}", fitting[n * fitting.len() / count]);
+        }
+    };
+    println!("# from the families");
+    spread(&families, 120, 0..1_500);
+    println!("# random");
+    spread(&random, 140, 0..1_500);
+    spread(&random, 20, 1_500..6_000);
+    spread(&random, 4, 6_000..24_000);
+    true
+}

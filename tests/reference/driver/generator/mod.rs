@@ -1,0 +1,72 @@
+//! Sheets for the comparison, from a fixed seed: small families in full, random
+//! valid sheets, edges, and damaged sheets with the refusal they must get.
+
+mod damage;
+mod edges;
+mod families;
+mod valid;
+
+use crate::sheet::*;
+pub use damage::{changed, damaged, damaged_as, DAMAGES};
+pub use edges::edges;
+pub use families::families;
+use families::*;
+use valid::*;
+pub use valid::{aim, valid};
+
+/// What is known of a sheet before anyone answers.
+#[derive(Clone, Copy, Debug, PartialEq, Eq)]
+pub enum Expect {
+    /// Check fits it or refuses it with 14: the reference answers.
+    Domain,
+    /// Check refuses it with this number.
+    Refused(u8),
+    /// Bytes changed at random: the second reading says whether it lies in the
+    /// domain.
+    Unknown,
+}
+
+#[derive(Clone, Debug)]
+pub struct Case {
+    pub sheet: Vec<u8>,
+    pub expect: Expect,
+}
+
+fn domain(sheet: &Sheet) -> Case {
+    let sheet = sheet.encode();
+    assert!(sheet.len() <= MAX_SHEET);
+    Case { sheet, expect: Expect::Domain }
+}
+
+/// The generator splitmix64.
+pub struct Random(pub u64);
+
+impl Random {
+    fn next(&mut self) -> u64 {
+        self.0 = self.0.wrapping_add(0x9e37_79b9_7f4a_7c15);
+        let mut z = self.0;
+        z = (z ^ (z >> 30)).wrapping_mul(0xbf58_476d_1ce4_e5b9);
+        z = (z ^ (z >> 27)).wrapping_mul(0x94d0_49bb_1331_11eb);
+        z ^ (z >> 31)
+    }
+
+    /// A number below `n`.
+    fn below(&mut self, n: usize) -> usize {
+        (self.next() % n as u64) as usize
+    }
+
+    /// True `one` time in `of`.
+    fn chance(&mut self, one: usize, of: usize) -> bool {
+        self.below(of) < one
+    }
+
+    fn mix<T>(&mut self, items: &mut [T]) {
+        for i in (1..items.len()).rev() {
+            items.swap(i, self.below(i + 1));
+        }
+    }
+
+    fn pick<T: Clone>(&mut self, from: &[T]) -> T {
+        from[self.below(from.len())].clone()
+    }
+}

@@ -1,0 +1,342 @@
+//! Runs the published Rust on a sheet: decodes record by record into naga's IR
+//! and calls, for each, the function that document 01 names.
+
+use crate::sheet::{self, *};
+use naga::back::spv;
+use naga::proc::TypeResolution;
+use naga::valid::ModuleInfo;
+use naga::{Expression, Handle, Span, TypeInner, VectorSize};
+use std::num::NonZeroU32;
+
+/// What the Rust makes of a sheet.
+pub enum Answer {
+    /// The words, and for each global whether it is wrapped.
+    Module(Vec<u32>, Vec<bool>),
+    /// The record at which a capability is missing.
+    Missing(usize),
+}
+
+/// Handles of what was read so far, by index of the sheet.
+struct Reader {
+    module: naga::Module,
+    info: ModuleInfo,
+    types: Vec<Handle<naga::Type>>,
+    constants: Vec<Handle<Expression>>,
+    globals: Vec<Handle<naga::GlobalVariable>>,
+    /// An alias goes through a named constant, whose type the Rust never reads.
+    unread: Handle<naga::Type>,
+}
+
+/// Only for sheets of the comparison's domain: those that Check fits, and those
+/// with start at most 4,194,302 that it refuses with 14.
+pub fn run(bytes: &[u8]) -> Answer {
+    let start = u32::from_be_bytes(bytes[1..5].try_into().unwrap());
+    let flags = bytes[5];
+    let mut options = spv::Options {
+        lang_version: (1, 3),
+        flags: match flags & DEBUG {
+            0 => spv::WriterFlags::empty(),
+            _ => spv::WriterFlags::DEBUG,
+        },
+        zero_initialize_workgroup_memory: match flags & NATIVE_ZERO {
+            0 => spv::ZeroInitializeWorkgroupMemoryMode::None,
+            _ => spv::ZeroInitializeWorkgroupMemoryMode::Native,
+        },
+        ..spv::Options::default()
+    };
+    let scalar = TypeInner::Scalar { kind: naga::ScalarKind::Bool, width: 1 };
+    let mut reader = Reader {
+        module: naga::Module::default(),
+        info: ModuleInfo::empty(),
+        types: Vec::new(),
+        constants: Vec::new(),
+        globals: Vec::new(),
+        unread: naga::UniqueArena::default()
+            .insert(naga::Type { name: None, inner: scalar }, Span::default()),
+    };
+    // The options are known once the first type, constant or global comes.
+    let mut writer = None;
+    let mut rest = &bytes[HEADER..];
+    let mut index = 0;
+    while let Some((record, after)) = next_record(rest) {
+        let result = match record {
+            Record::Available(list) => {
+                let known = list.into_iter().filter_map(spv::Capability::from_number);
+                options.capabilities = Some(known.collect());
+                Ok(0)
+            }
+            Record::Remap { group, binding, size } => {
+                let info = spv::BindingInfo { binding_array_size: Some(size) };
+                options.binding_map.insert(naga::ResourceBinding { group, binding }, info);
+                Ok(0)
+            }
+            record => {
+                let w = writer.get_or_insert_with(|| spv::Writer::reference_empty(&options, start));
+                reader.write(w, record)
+            }
+        };
+        match result {
+            Ok(_) => {}
+            Err(spv::Error::MissingCapabilities(..)) => return Answer::Missing(index),
+            Err(other) => panic!("the reference answered {other:?}"),
+        }
+        rest = after;
+        index += 1;
+    }
+    let writer = writer.unwrap_or_else(|| spv::Writer::reference_empty(&options, start));
+    let wrapped = |&global| spv::Writer::reference_wrapped(&reader.module, global);
+    Answer::Module(writer.reference_words(), reader.globals.iter().map(wrapped).collect())
+}
+
+fn name(name: Name) -> Option<String> {
+    name.map(|bytes| String::from_utf8(bytes).expect("tested by 9"))
+}
+
+fn kind(kind: u8) -> naga::ScalarKind {
+    match kind {
+        SINT => naga::ScalarKind::Sint,
+        UINT => naga::ScalarKind::Uint,
+        FLOAT => naga::ScalarKind::Float,
+        _ => naga::ScalarKind::Bool,
+    }
+}
+
+fn vector_size(size: u8) -> VectorSize {
+    match size {
+        2 => VectorSize::Bi,
+        3 => VectorSize::Tri,
+        _ => VectorSize::Quad,
+    }
+}
+
+fn access(bits: u8) -> naga::StorageAccess {
+    naga::StorageAccess::from_bits_truncate(bits as u32)
+}
+
+fn space(space: u8, bits: u8) -> naga::AddressSpace {
+    match space {
+        FUNCTION => naga::AddressSpace::Function,
+        PRIVATE => naga::AddressSpace::Private,
+        WORKGROUP => naga::AddressSpace::WorkGroup,
+        UNIFORM => naga::AddressSpace::Uniform,
+        STORAGE => naga::AddressSpace::Storage { access: access(bits) },
+        HANDLE => naga::AddressSpace::Handle,
+        _ => naga::AddressSpace::PushConstant,
+    }
+}
+
+fn array_size(size: u32) -> naga::ArraySize {
+    match NonZeroU32::new(size) {
+        Some(size) => naga::ArraySize::Constant(size),
+        None => naga::ArraySize::Dynamic,
+    }
+}
+
+fn image_class(class: u8, first: u8, second: u8) -> naga::ImageClass {
+    match class {
+        SAMPLED => naga::ImageClass::Sampled { kind: kind(first), multi: second == 1 },
+        DEPTH => naga::ImageClass::Depth { multi: second == 1 },
+        _ => naga::ImageClass::Storage { format: FORMATS[first as usize], access: access(second) },
+    }
+}
+
+fn dimension(dim: u8) -> naga::ImageDimension {
+    match dim {
+        D1 => naga::ImageDimension::D1,
+        1 => naga::ImageDimension::D2,
+        2 => naga::ImageDimension::D3,
+        _ => naga::ImageDimension::Cube,
+    }
+}
+
+/// In the order of the arms of `From<StorageFormat>` in instructions.rs.
+const FORMATS: [naga::StorageFormat; 40] = {
+    use naga::StorageFormat::*;
+    [
+        R8Unorm,
+        R8Snorm,
+        R8Uint,
+        R8Sint,
+        R16Uint,
+        R16Sint,
+        R16Float,
+        Rg8Unorm,
+        Rg8Snorm,
+        Rg8Uint,
+        Rg8Sint,
+        R32Uint,
+        R32Sint,
+        R32Float,
+        Rg16Uint,
+        Rg16Sint,
+        Rg16Float,
+        Rgba8Unorm,
+        Rgba8Snorm,
+        Rgba8Uint,
+        Rgba8Sint,
+        Bgra8Unorm,
+        Rgb10a2Uint,
+        Rgb10a2Unorm,
+        Rg11b10Float,
+        Rg32Uint,
+        Rg32Sint,
+        Rg32Float,
+        Rgba16Uint,
+        Rgba16Sint,
+        Rgba16Float,
+        Rgba32Uint,
+        Rgba32Sint,
+        Rgba32Float,
+        R16Unorm,
+        R16Snorm,
+        Rg16Unorm,
+        Rg16Snorm,
+        Rgba16Unorm,
+        Rgba16Snorm,
+    ]
+};
+
+impl Reader {
+    fn ty(&self, index: u16) -> Handle<naga::Type> {
+        self.types[index as usize]
+    }
+
+    fn constant(&self, index: u16) -> Handle<Expression> {
+        self.constants[index as usize]
+    }
+
+    fn write(&mut self, writer: &mut spv::Writer, record: Record) -> Result<u32, spv::Error> {
+        match record {
+            Record::Type(t) => {
+                let ty = naga::Type { name: name(t.name), inner: self.inner(t.inner) };
+                let handle = self.module.types.insert(ty, Span::default());
+                assert_eq!(handle.index(), self.types.len(), "12 refuses a repeated type");
+                self.types.push(handle);
+                writer.reference_type(&self.module, handle)
+            }
+            Record::Constant(c) => {
+                let resolution = self.resolution(&c);
+                self.info.push_constant(resolution);
+                let expression = self.expression(c);
+                let handle = self.module.const_expressions.append(expression, Span::default());
+                self.constants.push(handle);
+                writer.reference_constant(&self.module, &self.info, handle)
+            }
+            Record::Global(g) => {
+                let global = naga::GlobalVariable {
+                    name: name(g.name),
+                    space: space(g.space, g.access),
+                    binding: (g.bound == 1)
+                        .then_some(naga::ResourceBinding { group: g.group, binding: g.binding }),
+                    ty: self.ty(g.ty),
+                    init: (g.init != NO_INIT).then(|| self.constant(g.init)),
+                };
+                let handle = self.module.global_variables.append(global, Span::default());
+                self.globals.push(handle);
+                writer.reference_global(&self.module, handle)
+            }
+            Record::Available(_) | Record::Remap { .. } => unreachable!("options"),
+        }
+    }
+
+    fn inner(&self, inner: Inner) -> TypeInner {
+        match inner {
+            Inner::Scalar { kind: k, width } => TypeInner::Scalar { kind: kind(k), width },
+            Inner::Vector { size, kind: k, width } => {
+                TypeInner::Vector { size: vector_size(size), kind: kind(k), width }
+            }
+            Inner::Matrix { columns, rows, width } => {
+                TypeInner::Matrix { columns: vector_size(columns), rows: vector_size(rows), width }
+            }
+            Inner::Atomic { kind: k, width } => TypeInner::Atomic { kind: kind(k), width },
+            Inner::Pointer { base, space: s, access } => {
+                TypeInner::Pointer { base: self.ty(base), space: space(s, access) }
+            }
+            Inner::ValuePointer { size, kind: k, width, space: s, access } => {
+                TypeInner::ValuePointer {
+                    size: (size != 0).then(|| vector_size(size)),
+                    kind: kind(k),
+                    width,
+                    space: space(s, access),
+                }
+            }
+            Inner::Array { base, size, stride } => {
+                TypeInner::Array { base: self.ty(base), size: array_size(size), stride }
+            }
+            Inner::Struct { span, members } => {
+                let member = |m: Member| naga::StructMember {
+                    name: name(m.name),
+                    ty: self.ty(m.ty),
+                    binding: None,
+                    offset: m.offset,
+                };
+                TypeInner::Struct { members: members.into_iter().map(member).collect(), span }
+            }
+            Inner::Image { dim, arrayed, class, first, second } => TypeInner::Image {
+                dim: dimension(dim),
+                arrayed: arrayed == 1,
+                class: image_class(class, first, second),
+            },
+            Inner::Sampler { comparison } => TypeInner::Sampler { comparison: comparison == 1 },
+            Inner::AccelerationStructure => TypeInner::AccelerationStructure,
+            Inner::RayQuery => TypeInner::RayQuery,
+            Inner::BindingArray { base, size } => {
+                TypeInner::BindingArray { base: self.ty(base), size: array_size(size) }
+            }
+        }
+    }
+
+    fn expression(&mut self, constant: Constant) -> Expression {
+        match constant {
+            Constant::Literal(literal) => Expression::Literal(match literal {
+                sheet::Literal::F64(bits) => naga::Literal::F64(f64::from_bits(bits)),
+                sheet::Literal::F32(bits) => naga::Literal::F32(f32::from_bits(bits)),
+                sheet::Literal::U32(bits) => naga::Literal::U32(bits),
+                sheet::Literal::I32(bits) => naga::Literal::I32(bits as i32),
+                sheet::Literal::Bool(value) => naga::Literal::Bool(value == 1),
+            }),
+            Constant::Alias(of) => {
+                let named = naga::Constant {
+                    name: None,
+                    r#override: naga::Override::None,
+                    ty: self.unread,
+                    init: self.constant(of),
+                };
+                Expression::Constant(self.module.constants.append(named, Span::default()))
+            }
+            Constant::Zero(ty) => Expression::ZeroValue(self.ty(ty)),
+            Constant::Compose { ty, parts } => Expression::Compose {
+                ty: self.ty(ty),
+                components: parts.into_iter().map(|p| self.constant(p)).collect(),
+            },
+            Constant::Splat { size, value } => {
+                Expression::Splat { size: vector_size(size), value: self.constant(value) }
+            }
+        }
+    }
+
+    /// A constant's type as the validator would resolve it. Only a Splat's is
+    /// read; for the others it is left as a handle to no purpose.
+    fn resolution(&self, constant: &Constant) -> TypeResolution {
+        match *constant {
+            Constant::Splat { size, value } => {
+                let (kind, width) = self.scalar(self.constant(value));
+                TypeResolution::Value(TypeInner::Vector { size: vector_size(size), kind, width })
+            }
+            _ => TypeResolution::Handle(self.unread),
+        }
+    }
+
+    /// The scalar of a literal or of a zero of Scalar type, aliases followed.
+    fn scalar(&self, handle: Handle<Expression>) -> (naga::ScalarKind, u8) {
+        match self.module.const_expressions[handle] {
+            Expression::Literal(literal) => (literal.scalar_kind(), literal.width()),
+            Expression::Constant(named) => self.scalar(self.module.constants[named].init),
+            Expression::ZeroValue(ty) => match self.module.types[ty].inner {
+                TypeInner::Scalar { kind, width } => (kind, width),
+                _ => panic!("13 refuses a Splat of this"),
+            },
+            _ => panic!("13 refuses a Splat of this"),
+        }
+    }
+}

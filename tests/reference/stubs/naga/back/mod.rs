@@ -1,0 +1,3 @@
+//! Stands for `src/back/mod.rs`: names the back ends, of which one is here.
+
+pub mod spv;

@@ -1,0 +1,2 @@
+//! Stands for `src/back/spv/ray.rs`: function bodies. No sheet has any, and the
+//! published files name nothing of it.

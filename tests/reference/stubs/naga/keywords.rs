@@ -1,0 +1,1 @@
+//! Stands for `src/keywords`: reserved words of shading languages, unused here.
