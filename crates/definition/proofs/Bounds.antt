@@ -1,22 +1,21 @@
 -- Numbers read from bytes fit, and a name that passes test 9 is packed into words that the reader takes for a string.
-use Prim.Native.Nat.{ℕ, suc, zero, _+_, _*_, _-_, _/_, _%_, _<_, _≤_}
-use mathlib.Core.Path.{_≡_, refl, sym, ap, _∙_, subst}
-use mathlib.Core.List.{List, [], _∷_, _++_}
-use mathlib.Core.Option.{Option, some, none}
-use mathlib.Core.Bool.{Bool, true, false, _&&_, not}
+use Prim.Native.Nat.{ℕ, suc, zero, _+_, _*_, _/_, _%_, _≤_}
+use mathlib.Core.Path.{_≡_, refl, _∙_}
+use mathlib.Core.List.{List, [], _∷_}
+use mathlib.Core.Option.{some, none}
+use mathlib.Core.Bool.{Bool, true, false}
 use native.Mathlib.Omega.{arith}
-use lib.Dec.{T, eqb, leb, ltb, leb→le, lit≤}
-use lib.ListN.{length, getD, take, drop, length-take, length-drop}
+use lib.Dec.{T, eqb, leb, leb→le, lit≤}
+use lib.ListN.{length, getD, take, drop, length-take}
 use borrow.Author.Tests.{eq-eqb, ne-eqb}
 use Rattle.definition.specs.Choice.{pick}
-use Rattle.definition.specs.Bytes.{u8At, u16At, u32At, u64At, Name, nameAt}
+use Rattle.definition.specs.Bytes.{u8At, u16At, u32At, u64At, nameAt}
 use Rattle.definition.specs.Utf8.{utf8, noZero, nameFits}
 use Rattle.definition.specs.Instructions.{packed, littleEndian}
-use Rattle.definition.specs.Reader.{octet, isZero, full, closing, isString}
-use Rattle.definition.proofs.Rows.{both-true}
+use Rattle.definition.specs.Reader.{isZero, full, closing, isString}
+use Rattle.definition.proofs.Truth.{both-true}
 use Rattle.definition.proofs.Sizes.{W, Under}
 use Rattle.definition.proofs.Marks.{GoodName, Spelled}
-use Rattle.definition.proofs.Inners.{pick-for}
 
 -- ---- numbers
 

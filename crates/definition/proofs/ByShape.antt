@@ -1,24 +1,24 @@
 -- Facts by cases on a shape: one line for each shape. The last one, `told`, is a left inverse: opcode, operands and the inner
 -- type tell the shape, so that no two shapes have to be compared with each other.
-use Prim.Native.Nat.{ℕ, suc, zero, _+_, _*_, _<_, _≤_, _/_}
-use mathlib.Core.Path.{_≡_, refl, sym, ap, _∙_, subst}
-use mathlib.Core.Logic.{_⊎_, inl, inr}
+use Prim.Native.Nat.{ℕ, _*_, _<_, _≤_, _/_}
+use mathlib.Core.Path.{_≡_, refl, sym, ap, _∙_}
 use mathlib.Core.List.{List, [], _∷_, _++_, append-nil, List·Memᴰ}
 use mathlib.Core.Option.{Option, some, none}
-use mathlib.Core.Bool.{Bool, true, false}
+use mathlib.Core.Bool.{Bool, true, false, _&&_, Bool·beq}
 use native.Mathlib.Omega.{arith}
-use lib.Dec.{eqb, T, lit<, lit≤}
+use lib.Dec.{eqb, ltb, T, ltb→lt, lit<, lit≤}
 use lib.ListN.{getD}
 use borrow.Author.Tests.{eq-eqb, ne-eqb, eqb-true, eqb-false}
 use Rattle.definition.specs.Choice.{pick}
 use Rattle.definition.specs.Numbers.{OpTypeBool, OpTypeInt, OpTypeFloat, OpTypeVector, OpTypeMatrix, OpTypeImage, OpTypeSampler, OpTypeAccelerationStructureKHR}
 use Rattle.definition.specs.Instructions.{Instruction}
 use Rattle.definition.specs.Reader.{uses, idsAmong, layoutOf, formed}
-use Rattle.definition.specs.Shapes.{Kind, Count, Shape, Key, inner, sized, rank, rankOf, opcodeOf, operandsOf, typeOf}
+use Rattle.definition.specs.Shapes.{Kind, Shape, Key, inner, sized, rank, rankOf, opcodeOf, operandsOf, typeOf}
 use Rattle.definition.specs.Shapes.{sint, uint, float, bool, one, many, scalar, vector, matrix, pointer, valuePointer, image, sampler, accelerationStructure, rayQuery, bindingArray, bindingPointer, entry, shape}
 use Rattle.definition.specs.WellDeclared.{plainType, Twins, declaring, needs, intNeeds}
 use Rattle.definition.specs.Finding.{capabilitiesOf, kindCapabilities}
-use Rattle.definition.proofs.Sizes.{W, Under, Sized, SmallKind, SmallShape, SmallKey, under-more}
+use Rattle.definition.proofs.Truth.{both-true, true-is, alike-is}
+use Rattle.definition.proofs.Sizes.{W, Sized, SmallShape, SmallKey, under-more}
 
 -- the ids that a shape's instruction uses
 abbrev pub innerIds : Option Key → ℕ → List ℕ
@@ -36,6 +36,29 @@ pub record Formed (d : Instruction) : Type 0 where
   pub typed : layoutOf (d .opcode) .typed ≡ declaring (d .type)
   pub declares : layoutOf (d .opcode) .declares ≡ declaring (d .result)
   pub operands : formed (layoutOf (d .opcode) .operands) (d .operands) ≡ true
+
+-- the same as one test, which the checker computes
+abbrev pub takes : Instruction → Bool
+takes d =
+    ltb (d .opcode) 65536
+    && (layoutOf (d .opcode) .known
+    && (Bool·beq (layoutOf (d .opcode) .typed) (declaring (d .type))
+    && (Bool·beq (layoutOf (d .opcode) .declares) (declaring (d .result))
+    && formed (layoutOf (d .opcode) .operands) (d .operands))))
+
+pub taken : {d : Instruction} → T (takes d) → Formed d
+taken {d} t =
+    let a = both-true (ltb (d .opcode) 65536) _ t in
+    let b = both-true (layoutOf (d .opcode) .known) _ (a .1) in
+    let c = both-true (Bool·beq (layoutOf (d .opcode) .typed) (declaring (d .type))) _ (b .1) in
+    let e = both-true (Bool·beq (layoutOf (d .opcode) .declares) (declaring (d .result))) _ (c .1) in
+    record {
+      small = ltb→lt (d .opcode) 65536 (a .0);
+      known = true-is (layoutOf (d .opcode) .known) (b .0);
+      typed = alike-is (layoutOf (d .opcode) .typed) (declaring (d .type)) (c .0);
+      declares = alike-is (layoutOf (d .opcode) .declares) (declaring (d .result)) (e .0);
+      operands = true-is (formed (layoutOf (d .opcode) .operands) (d .operands)) (e .1);
+    }
 
 -- the rules count widths in bytes, the reader in bits
 scaled : (w n : ℕ) → eqb (8 * w) (8 * n) ≡ eqb w n
@@ -145,21 +168,21 @@ pub record Facts (l : Shape) : Type 0 where
 
 pub facts : (l : Shape) → Facts l
 unfolding needs
-facts (scalar (sint w)) = record { used = λ x y. refl; formed = λ id x y. record { small = lit< tt; known = refl; typed = refl; declares = refl; operands = refl }; fits = λ h last id x y i j k. record { words = λ B p q. (omega arith, (omega arith, (omega arith, tt))); short = lit< tt }; needed = λ id x y. integers-agree w (1 ∷ []); deeper = tt; inside = tt; small-inner = λ h. tt; small-length = λ h. tt; shallow = lit≤ tt; plain-inner = λ t. tt; plain-sized = λ t. refl; told = λ x y t. ap (λ (n : ℕ). scalar (sint n)) (omega arith) }
-facts (scalar (uint w)) = record { used = λ x y. refl; formed = λ id x y. record { small = lit< tt; known = refl; typed = refl; declares = refl; operands = refl }; fits = λ h last id x y i j k. record { words = λ B p q. (omega arith, (omega arith, (omega arith, tt))); short = lit< tt }; needed = λ id x y. integers-agree w (0 ∷ []); deeper = tt; inside = tt; small-inner = λ h. tt; small-length = λ h. tt; shallow = lit≤ tt; plain-inner = λ t. tt; plain-sized = λ t. refl; told = λ x y t. ap (λ (n : ℕ). scalar (uint n)) (omega arith) }
-facts (scalar (float w)) = record { used = λ x y. refl; formed = λ id x y. record { small = lit< tt; known = refl; typed = refl; declares = refl; operands = refl }; fits = λ h last id x y i j k. record { words = λ B p q. (omega arith, (omega arith, tt)); short = lit< tt }; needed = λ id x y. rw (scaled w 8); deeper = tt; inside = tt; small-inner = λ h. tt; small-length = λ h. tt; shallow = lit≤ tt; plain-inner = λ t. tt; plain-sized = λ t. refl; told = λ x y t. ap (λ (n : ℕ). scalar (float n)) (omega arith) }
-facts (scalar bool) = record { used = λ x y. refl; formed = λ id x y. record { small = lit< tt; known = refl; typed = refl; declares = refl; operands = refl }; fits = λ h last id x y i j k. record { words = λ B p q. (omega arith, tt); short = lit< tt }; needed = λ id x y. refl; deeper = tt; inside = tt; small-inner = λ h. tt; small-length = λ h. tt; shallow = lit≤ tt; plain-inner = λ t. tt; plain-sized = λ t. refl; told = λ x y t. refl }
-facts (vector n k) = record { used = λ x y. refl; formed = λ id x y. record { small = lit< tt; known = refl; typed = refl; declares = refl; operands = refl }; fits = λ h last id x y i j k. record { words = λ B p q. (omega arith, (omega arith, (omega arith, tt))); short = lit< tt }; needed = λ id x y. refl; deeper = lit< tt; inside = tt; small-inner = λ h. h .1; small-length = λ h. tt; shallow = lit≤ tt; plain-inner = λ t. plain-scalar k; plain-sized = λ t. refl; told = λ x y t. refl }
-facts (matrix c r w) = record { used = λ x y. refl; formed = λ id x y. record { small = lit< tt; known = refl; typed = refl; declares = refl; operands = refl }; fits = λ h last id x y i j k. record { words = λ B p q. (omega arith, (omega arith, (omega arith, tt))); short = lit< tt }; needed = λ id x y. refl; deeper = lit< tt; inside = tt; small-inner = λ h. (h .1, h .2); small-length = λ h. tt; shallow = lit≤ tt; plain-inner = λ t. tt; plain-sized = λ t. refl; told = λ x y t. refl }
-facts (pointer b c) = record { used = λ x y. refl; formed = λ id x y. record { small = lit< tt; known = refl; typed = refl; declares = refl; operands = refl }; fits = λ h last id x y i j k. record { words = λ B p q. (omega arith, (omega arith, (omega arith, tt))); short = lit< tt }; needed = λ id x y. refl; deeper = lit< tt; inside = tt; small-inner = λ h. tt; small-length = λ h. tt; shallow = lit≤ tt; plain-inner = λ t. absurd t; plain-sized = λ t. refl; told = λ x y t. absurd t }
-facts (valuePointer one k c) = record { used = λ x y. refl; formed = λ id x y. record { small = lit< tt; known = refl; typed = refl; declares = refl; operands = refl }; fits = λ h last id x y i j k. record { words = λ B p q. (omega arith, (omega arith, (omega arith, tt))); short = lit< tt }; needed = λ id x y. refl; deeper = lit< tt; inside = tt; small-inner = λ h. h .1; small-length = λ h. tt; shallow = lit≤ tt; plain-inner = λ t. absurd t; plain-sized = λ t. refl; told = λ x y t. absurd t }
-facts (valuePointer (many n) k c) = record { used = λ x y. refl; formed = λ id x y. record { small = lit< tt; known = refl; typed = refl; declares = refl; operands = refl }; fits = λ h last id x y i j k. record { words = λ B p q. (omega arith, (omega arith, (omega arith, tt))); short = lit< tt }; needed = λ id x y. refl; deeper = lit< tt; inside = tt; small-inner = λ h. (h .1, h .2); small-length = λ h. tt; shallow = lit≤ tt; plain-inner = λ t. absurd t; plain-sized = λ t. refl; told = λ x y t. absurd t }
-facts (image k d p a m s f) = record { used = λ x y. refl; formed = λ id x y. record { small = lit< tt; known = refl; typed = refl; declares = refl; operands = refl }; fits = λ h last id x y i j k. record { words = λ B u q. (omega arith, (omega arith, under-more W B (d ∷ p ∷ a ∷ m ∷ s ∷ f ∷ []) (omega arith) (h .1))); short = lit< tt }; needed = λ id x y. refl; deeper = lit< tt; inside = tt; small-inner = λ h. h .0; small-length = λ h. tt; shallow = lit≤ tt; plain-inner = λ t. plain-scalar k; plain-sized = λ t. refl; told = λ x y t. refl }
-facts sampler = record { used = λ x y. refl; formed = λ id x y. record { small = lit< tt; known = refl; typed = refl; declares = refl; operands = refl }; fits = λ h last id x y i j k. record { words = λ B p q. (omega arith, tt); short = lit< tt }; needed = λ id x y. refl; deeper = tt; inside = tt; small-inner = λ h. tt; small-length = λ h. tt; shallow = lit≤ tt; plain-inner = λ t. tt; plain-sized = λ t. refl; told = λ x y t. refl }
-facts accelerationStructure = record { used = λ x y. refl; formed = λ id x y. record { small = lit< tt; known = refl; typed = refl; declares = refl; operands = refl }; fits = λ h last id x y i j k. record { words = λ B p q. (omega arith, tt); short = lit< tt }; needed = λ id x y. refl; deeper = tt; inside = tt; small-inner = λ h. tt; small-length = λ h. tt; shallow = lit≤ tt; plain-inner = λ t. tt; plain-sized = λ t. refl; told = λ x y t. refl }
-facts rayQuery = record { used = λ x y. refl; formed = λ id x y. record { small = lit< tt; known = refl; typed = refl; declares = refl; operands = refl }; fits = λ h last id x y i j k. record { words = λ B p q. (omega arith, tt); short = lit< tt }; needed = λ id x y. refl; deeper = tt; inside = tt; small-inner = λ h. tt; small-length = λ h. tt; shallow = lit≤ tt; plain-inner = λ t. tt; plain-sized = λ t. refl; told = λ x y t. refl }
-facts (bindingArray b n) = record { used = λ x y. refl; formed = λ id x y. record { small = lit< tt; known = refl; typed = refl; declares = refl; operands = refl }; fits = λ h last id x y i j k. record { words = λ B p q. (omega arith, (omega arith, (omega arith, tt))); short = lit< tt }; needed = λ id x y. refl; deeper = lit< tt; inside = lit< tt; small-inner = λ h. tt; small-length = λ h. h; shallow = lit≤ tt; plain-inner = λ t. absurd t; plain-sized = λ t. absurd t; told = λ x y t. absurd t }
-facts (bindingPointer b n s a) = record { used = λ x y. refl; formed = λ id x y. record { small = lit< tt; known = refl; typed = refl; declares = refl; operands = refl }; fits = λ h last id x y i j k. record { words = λ B p q. (omega arith, (omega arith, (omega arith, tt))); short = lit< tt }; needed = λ id x y. refl; deeper = lit< tt; inside = tt; small-inner = λ h. h .0; small-length = λ h. tt; shallow = lit≤ tt; plain-inner = λ t. absurd t; plain-sized = λ t. refl; told = λ x y t. absurd t }
+facts (scalar (sint w)) = record { used = λ x y. refl; formed = λ id x y. taken tt; fits = λ h last id x y i j k. record { words = λ B p q. (omega arith, (omega arith, (omega arith, tt))); short = lit< tt }; needed = λ id x y. integers-agree w (1 ∷ []); deeper = tt; inside = tt; small-inner = λ h. tt; small-length = λ h. tt; shallow = lit≤ tt; plain-inner = λ t. tt; plain-sized = λ t. refl; told = λ x y t. ap (λ (n : ℕ). scalar (sint n)) (omega arith) }
+facts (scalar (uint w)) = record { used = λ x y. refl; formed = λ id x y. taken tt; fits = λ h last id x y i j k. record { words = λ B p q. (omega arith, (omega arith, (omega arith, tt))); short = lit< tt }; needed = λ id x y. integers-agree w (0 ∷ []); deeper = tt; inside = tt; small-inner = λ h. tt; small-length = λ h. tt; shallow = lit≤ tt; plain-inner = λ t. tt; plain-sized = λ t. refl; told = λ x y t. ap (λ (n : ℕ). scalar (uint n)) (omega arith) }
+facts (scalar (float w)) = record { used = λ x y. refl; formed = λ id x y. taken tt; fits = λ h last id x y i j k. record { words = λ B p q. (omega arith, (omega arith, tt)); short = lit< tt }; needed = λ id x y. rw (scaled w 8); deeper = tt; inside = tt; small-inner = λ h. tt; small-length = λ h. tt; shallow = lit≤ tt; plain-inner = λ t. tt; plain-sized = λ t. refl; told = λ x y t. ap (λ (n : ℕ). scalar (float n)) (omega arith) }
+facts (scalar bool) = record { used = λ x y. refl; formed = λ id x y. taken tt; fits = λ h last id x y i j k. record { words = λ B p q. (omega arith, tt); short = lit< tt }; needed = λ id x y. refl; deeper = tt; inside = tt; small-inner = λ h. tt; small-length = λ h. tt; shallow = lit≤ tt; plain-inner = λ t. tt; plain-sized = λ t. refl; told = λ x y t. refl }
+facts (vector n k) = record { used = λ x y. refl; formed = λ id x y. taken tt; fits = λ h last id x y i j k. record { words = λ B p q. (omega arith, (omega arith, (omega arith, tt))); short = lit< tt }; needed = λ id x y. refl; deeper = lit< tt; inside = tt; small-inner = λ h. h .1; small-length = λ h. tt; shallow = lit≤ tt; plain-inner = λ t. plain-scalar k; plain-sized = λ t. refl; told = λ x y t. refl }
+facts (matrix c r w) = record { used = λ x y. refl; formed = λ id x y. taken tt; fits = λ h last id x y i j k. record { words = λ B p q. (omega arith, (omega arith, (omega arith, tt))); short = lit< tt }; needed = λ id x y. refl; deeper = lit< tt; inside = tt; small-inner = λ h. (h .1, h .2); small-length = λ h. tt; shallow = lit≤ tt; plain-inner = λ t. tt; plain-sized = λ t. refl; told = λ x y t. refl }
+facts (pointer b c) = record { used = λ x y. refl; formed = λ id x y. taken tt; fits = λ h last id x y i j k. record { words = λ B p q. (omega arith, (omega arith, (omega arith, tt))); short = lit< tt }; needed = λ id x y. refl; deeper = lit< tt; inside = tt; small-inner = λ h. tt; small-length = λ h. tt; shallow = lit≤ tt; plain-inner = λ t. absurd t; plain-sized = λ t. refl; told = λ x y t. absurd t }
+facts (valuePointer one k c) = record { used = λ x y. refl; formed = λ id x y. taken tt; fits = λ h last id x y i j k. record { words = λ B p q. (omega arith, (omega arith, (omega arith, tt))); short = lit< tt }; needed = λ id x y. refl; deeper = lit< tt; inside = tt; small-inner = λ h. h .1; small-length = λ h. tt; shallow = lit≤ tt; plain-inner = λ t. absurd t; plain-sized = λ t. refl; told = λ x y t. absurd t }
+facts (valuePointer (many n) k c) = record { used = λ x y. refl; formed = λ id x y. taken tt; fits = λ h last id x y i j k. record { words = λ B p q. (omega arith, (omega arith, (omega arith, tt))); short = lit< tt }; needed = λ id x y. refl; deeper = lit< tt; inside = tt; small-inner = λ h. (h .1, h .2); small-length = λ h. tt; shallow = lit≤ tt; plain-inner = λ t. absurd t; plain-sized = λ t. refl; told = λ x y t. absurd t }
+facts (image k d p a m s f) = record { used = λ x y. refl; formed = λ id x y. taken tt; fits = λ h last id x y i j k. record { words = λ B u q. (omega arith, (omega arith, under-more W B (d ∷ p ∷ a ∷ m ∷ s ∷ f ∷ []) (omega arith) (h .1))); short = lit< tt }; needed = λ id x y. refl; deeper = lit< tt; inside = tt; small-inner = λ h. h .0; small-length = λ h. tt; shallow = lit≤ tt; plain-inner = λ t. plain-scalar k; plain-sized = λ t. refl; told = λ x y t. refl }
+facts sampler = record { used = λ x y. refl; formed = λ id x y. taken tt; fits = λ h last id x y i j k. record { words = λ B p q. (omega arith, tt); short = lit< tt }; needed = λ id x y. refl; deeper = tt; inside = tt; small-inner = λ h. tt; small-length = λ h. tt; shallow = lit≤ tt; plain-inner = λ t. tt; plain-sized = λ t. refl; told = λ x y t. refl }
+facts accelerationStructure = record { used = λ x y. refl; formed = λ id x y. taken tt; fits = λ h last id x y i j k. record { words = λ B p q. (omega arith, tt); short = lit< tt }; needed = λ id x y. refl; deeper = tt; inside = tt; small-inner = λ h. tt; small-length = λ h. tt; shallow = lit≤ tt; plain-inner = λ t. tt; plain-sized = λ t. refl; told = λ x y t. refl }
+facts rayQuery = record { used = λ x y. refl; formed = λ id x y. taken tt; fits = λ h last id x y i j k. record { words = λ B p q. (omega arith, tt); short = lit< tt }; needed = λ id x y. refl; deeper = tt; inside = tt; small-inner = λ h. tt; small-length = λ h. tt; shallow = lit≤ tt; plain-inner = λ t. tt; plain-sized = λ t. refl; told = λ x y t. refl }
+facts (bindingArray b n) = record { used = λ x y. refl; formed = λ id x y. taken tt; fits = λ h last id x y i j k. record { words = λ B p q. (omega arith, (omega arith, (omega arith, tt))); short = lit< tt }; needed = λ id x y. refl; deeper = lit< tt; inside = lit< tt; small-inner = λ h. tt; small-length = λ h. h; shallow = lit≤ tt; plain-inner = λ t. absurd t; plain-sized = λ t. absurd t; told = λ x y t. absurd t }
+facts (bindingPointer b n s a) = record { used = λ x y. refl; formed = λ id x y. taken tt; fits = λ h last id x y i j k. record { words = λ B p q. (omega arith, (omega arith, (omega arith, tt))); short = lit< tt }; needed = λ id x y. refl; deeper = lit< tt; inside = tt; small-inner = λ h. h .0; small-length = λ h. tt; shallow = lit≤ tt; plain-inner = λ t. absurd t; plain-sized = λ t. refl; told = λ x y t. absurd t }
 
 pub uses-type : (l : Shape) (id x y : ℕ) → uses (typeOf l id x y) ≡ innerIds (inner l) x ++ lengthIds (sized l) y
 unfolding uses

@@ -1,13 +1,13 @@
 -- Capabilities are few and their numbers small: what is listed is needed by a declared type, and what a type needs is one of the
 -- capabilities that the rules name.
-use Prim.Native.Nat.{ℕ, suc, zero, _+_, _<_, _≤_, min}
+use Prim.Native.Nat.{ℕ, suc, zero, _≤_, min}
 use mathlib.Core.Path.{_≡_, refl, ap}
-use mathlib.Core.List.{List, [], _∷_, _++_, List·Memᴰ, List·Memᴰ·head, List·Memᴰ·tail}
+use mathlib.Core.List.{List, [], _∷_, List·Memᴰ, List·Memᴰ·head, List·Memᴰ·tail}
 use mathlib.Core.Logic.{_⊎_, inl, inr}
-use mathlib.Core.Bool.{Bool, true, false, _&&_}
+use mathlib.Core.Bool.{_&&_}
 use native.Mathlib.Omega.{arith}
 use lib.Dec.{eqb, lit≤}
-use Rattle.definition.specs.Choice.{pick, among}
+use Rattle.definition.specs.Choice.{among}
 use Rattle.definition.specs.Numbers.{OpTypeInt, OpTypeFloat, OpTypeImage, OpTypeAccelerationStructureKHR, OpTypeRayQueryKHR, Dim1D, DimCube}
 use Rattle.definition.specs.Instructions.{Instruction}
 use Rattle.definition.specs.State.{same, occurrences}
@@ -15,7 +15,7 @@ use Rattle.definition.specs.Finding.{extendedFormats, formatCapabilities
 use Rattle.definition.specs.WellDeclared.{intNeeds, floatNeeds, imageNeeds, needs, needed}
 use Rattle.definition.proofs.Lists.{same-itself, same-cases}
 use Rattle.definition.proofs.Sizes.{W, Under, under-append}
-use Rattle.definition.proofs.Inners.{pick-for}
+use Rattle.definition.proofs.Truth.{pick-for}
 
 -- a number that stands in a list is counted there, and one that is counted in a list of small numbers is small
 counted : (c : ℕ) (cs : List ℕ) → List·Memᴰ c cs → 1 ≤ occurrences c cs

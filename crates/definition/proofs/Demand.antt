@@ -1,31 +1,32 @@
 -- Demand 3: the instructions of a sound state, with nothing pending, are what the record asks; the reader finds them in the words;
 -- and a sheet that is fit comes to such a state.
-use Prim.Native.Nat.{ℕ, suc, zero, _+_, _*_, _<_, _≤_, min}
+use Prim.Native.Nat.{ℕ, suc, zero, _<_, _≤_}
 use mathlib.Core.Path.{_≡_, refl, sym, ap, _∙_, subst}
 use mathlib.Core.Logic.{_⊎_, inl, inr, _↔_}
 use mathlib.Core.List.{List, [], _∷_, _++_, append-nil, append-assoc, List·Memᴰ, List·Memᴰ·head, List·Memᴰ·tail, List·Memᴰ·not-nil, List·Memᴰ·cases-cons, List·Memᴰ·append-cases, Memᴰ·append-right}
 use mathlib.Core.Option.{Option, some, none}
 use mathlib.Core.Bool.{Bool, true, false}
 use native.Mathlib.Omega.{arith}
-use lib.Dec.{T, lit<, eqb}
-use lib.ListN.{getElem?}
+use lib.Dec.{T, lit<, leb}
+use lib.ListN.{length, getElem?, take, drop}
+use lib.Seq.{take-at, drop-at}
+use Rattle.definition.specs.Choice.{pick}
 use borrow.Author.Tests.{ne-eqb}
-use Rattle.definition.specs.Choice.{among}
 use Rattle.definition.specs.Numbers.{OpCapability, OpName, OpMemberName, OpDecorate, OpMemberDecorate, OpTypeBool, OpTypeInt, OpTypeFloat, OpTypeVector, OpTypeMatrix, OpTypeImage, OpTypeSampler, OpTypeAccelerationStructureKHR, OpTypeRayQueryKHR}
-use Rattle.definition.specs.Instructions.{Instruction, capability}
-use Rattle.definition.specs.Reader.{uses, layoutOf}
+use Rattle.definition.specs.Instructions.{Instruction, capability, put}
+use Rattle.definition.specs.Reader.{layoutOf, Module}
 use Rattle.definition.specs.Sheet.{TypeEntry, startOf}
-use Rattle.definition.specs.Tests.{fit}
-use Rattle.definition.specs.Shapes.{Shape, Key, sameKey, shapeOf, inner, sized, rank, rankOf, opcodeOf, typeOf, entry, shape}
-use Rattle.definition.specs.State.{State, same, occurrences, lookup, idOf, boundOf, capabilityInstructions, instructions}
-use Rattle.definition.specs.Operations.{Progress, judged}
-use Rattle.definition.specs.WellDeclared.{times, once, declaring, Above, UsesDeclared, NoTwins, Twins, plainType, targets, targetOf, marks, needs, listedIn, listedBy, needed, WellDeclared, Declares, alone, over, HasShape, EntriesDeclared, Found, IsBytes, Demand3}
-use Rattle.definition.proofs.Lists.{times-append, targets-append, upTo, upTo-in, upTo-out, lookup-in, lookup-out}
-use Rattle.definition.proofs.Sizes.{W, Sized}
-use Rattle.definition.proofs.ByShape.{FitsIn, FitsLength, Formed, PlainIn, Deeper, facts}
+use Rattle.definition.specs.Tests.{Judged, refused, fit}
+use Rattle.definition.specs.Shapes.{Shape, Key, sameKey, shapeOf, inner, rankOf, opcodeOf, typeOf, entry, shape}
+use Rattle.definition.specs.State.{State, occurrences, lookup, idOf, boundOf, capabilityInstructions, instructions, moduleWords}
+use Rattle.definition.specs.Operations.{Progress, judged, Written, unchanged, declaredOf, declare}
+use Rattle.definition.specs.WellDeclared.{times, once, declaring, Above, NoTwins, plainType, targets, targetOf, marks, needs, listedIn, listedBy, needed, WellDeclared, Declares, alone, over, HasShape, EntriesDeclared, Demand3, writtenOf, Accepted, Demand3OfDeclare}
+use Rattle.definition.proofs.Lists.{times-append, targets-append, upTo-in, upTo-out, lookup-in, lookup-out}
+use Rattle.definition.proofs.Sizes.{W}
+use Rattle.definition.proofs.ByShape.{taken, FitsIn, FitsLength, PlainIn, Deeper, facts}
 use Rattle.definition.proofs.Sound.{taken-range, Sound, Settled, Note, Declaration}
 use Rattle.definition.proofs.Types.{HasShapeId, Told}
-use Rattle.definition.proofs.Records.{FitSheet, fit-sheet}
+use Rattle.definition.proofs.Records.{fit-sheet}
 use Rattle.definition.proofs.Reading.{Readable, module-read}
 use Rattle.definition.proofs.Capabilities.{small-listed}
 
@@ -91,7 +92,7 @@ capabilities-readable last (c ∷ cs) small d m = go (List·Memᴰ·cases-cons m
   where
     itself : Readable last (capability c)
     itself = record {
-      formed = record { small = lit< tt; known = refl; typed = refl; declares = refl; operands = refl };
+      formed = taken tt;
       fits = record { words = λ B p q. (omega (arith, small c (List·Memᴰ·head refl)), tt); short = lit< tt };
     }
 
@@ -312,8 +313,32 @@ demand-3 s bytes p e =
     let start = startOf s in
     let h = f .good .sound in
     record {
-      found = record { version = 0x00010300; generator = 28; bound = boundOf (p .state); instructions = instructions (p .state) };
+      found = writtenOf (p .state);
       reads = module-read (p .state) (omega (arith, f .low)) (all-readable start (p .state) h (small-listed (p .state .capabilities) (p .state .declarations) (h .caps)));
+      written = refl;
       well = well-declared start (p .state) h;
-      entries = entries-declared start (p .state) h (p .seen .types) (f .good .told);
-    }
+      entries = entries-declared start (p .state) h (p .seen .types) (f .good .told) }
+
+-- The same of the words that Declare leaves in a buffer: where it answers Written, the module stands at the buffer's front.
+pub demand-3-of-declare : Demand3OfDeclare
+unfolding declare put
+demand-3-of-declare s b bytes n bound e = outer (judged s) refl e
+  where
+    fitting : (p : Progress) → judged s ≡ fit p → (c : Bool) → leb (length (moduleWords (p .state))) (length b) ≡ c
+        → pick c (record { answer = Written (length (moduleWords (p .state))) (boundOf (p .state)); buffer = put (moduleWords (p .state)) b }) (unchanged 16 b) .answer ≡ Written n bound → Accepted s b n bound
+    fitting p f true l w =
+        let ws = moduleWords (p .state) in
+        let m : length ws ≡ n = cc in
+        let q : boundOf (p .state) ≡ bound = cc in
+        let d = demand-3 s bytes p f in
+        let front : take n (declare s b .buffer) ≡ ws = rw (f, l) (take-at ws (drop (length ws) b) n m) in
+        record {
+          progress = p;
+          fits = f;
+          found = record { found = d .found; reads = rw front (d .reads); written = d .written; well = d .well; entries = d .entries };
+          bound-is = sym q ∙ sym (ap (λ (m : Module). m .bound) (d .written));
+          rest = rw (f, l) (drop-at ws (drop (length ws) b) n m ∙ ap (λ (k : ℕ). drop k b) m) }
+    fitting p f false l w = let z : _≡_ {A = ℕ} 0 1 = cc in absurd (omega arith)
+    outer : (j : Judged Progress) → judged s ≡ j → declaredOf b j .answer ≡ Written n bound → Accepted s b n bound
+    outer (refused k) f w = let z : _≡_ {A = ℕ} 0 1 = cc in absurd (omega arith)
+    outer (fit p) f w = fitting p f (leb (length (moduleWords (p .state))) (length b)) refl w

@@ -1,27 +1,26 @@
 -- Finding a key's id keeps the state sound, and the id found is declared.
-use Prim.Native.Nat.{ℕ, suc, zero, _+_, _*_, _/_, _%_, _<_, _≤_, min}
-use mathlib.Core.Path.{_≡_, refl, sym, ap, _∙_, subst}
+use Prim.Native.Nat.{ℕ, suc, zero, _/_, _%_, _<_, _≤_}
+use mathlib.Core.Path.{_≡_, refl, ap, _∙_, subst}
 use mathlib.Core.Logic.{_⊎_, inl, inr}
-use mathlib.Core.List.{List, [], _∷_, _++_, List·Memᴰ, List·Memᴰ·head, List·Memᴰ·tail, List·Memᴰ·not-nil, List·Memᴰ·cases-cons, List·Memᴰ·append-cases, List·Memᴰ·eq-of-singleton, Memᴰ·append-left, Memᴰ·append-right}
+use mathlib.Core.List.{List, [], _∷_, _++_, List·Memᴰ, List·Memᴰ·head, List·Memᴰ·not-nil, List·Memᴰ·cases-cons, List·Memᴰ·append-cases, List·Memᴰ·eq-of-singleton, Memᴰ·append-left}
 use mathlib.Core.Option.{Option, some, none}
 use mathlib.Core.Bool.{Bool, true, false}
 use native.Mathlib.Omega.{arith}
-use native.Mathlib.Decide.{ℕ-discrete}
 use lib.Dec.{T, eqb, lit<, lit≤}
 use lib.ListN.{length}
 use Rattle.definition.specs.Choice.{pick}
-use Rattle.definition.specs.Instructions.{Instruction, constant, constantTrue, constantFalse, constantComposite, constantNull}
-use Rattle.definition.specs.Reader.{uses, layoutOf, idsAmong}
-use Rattle.definition.specs.Literals.{Literal, f64, f32, u32, i32, boolean, sameLiteral, literalWords}
-use Rattle.definition.specs.Shapes.{Kind, Shape, Key, sameKey, inner, sized, rank, rankOf, opcodeOf, typeOf}
-use Rattle.definition.specs.Shapes.{scalar, vector, matrix, pointer, valuePointer, image, sampler, accelerationStructure, rayQuery, bindingArray, bindingPointer, entry, shape, one, many, uint, bool}
-use Rattle.definition.specs.State.{Constants, Composite, Valued, composite, sameComposite, State, Got, lookup, same, takeId, enter, withConstants, declare, declareWith}
-use Rattle.definition.specs.Finding.{capabilitiesOf, literalKind, literalOp, enterLiteral, enterComposite, enterNull, newValue, orNewValue, literalWith, declareShape, innerGot, lengthGot, newKey, orNewKey, findAt, find, literal, compositeOf, orNewNull, nullOf}
+use Rattle.definition.specs.Instructions.{Instruction, constant, constantTrue, constantFalse}
+use Rattle.definition.specs.Reader.{uses}
+use Rattle.definition.specs.Literals.{Literal, f64, f32, u32, i32, boolean, sameLiteral}
+use Rattle.definition.specs.Shapes.{Shape, Key, sameKey, inner, sized, rank, rankOf, typeOf, float}
+use Rattle.definition.specs.Shapes.{scalar, vector, matrix, pointer, valuePointer, image, sampler, accelerationStructure, rayQuery, bindingArray, bindingPointer, entry, shape, one, many}
+use Rattle.definition.specs.State.{Constants, State, Got, lookup, same, takeId, enter, withConstants, declare, declareWith}
+use Rattle.definition.specs.Finding.{capabilitiesOf, literalKind, literalOp, enterLiteral, orNewValue, literalWith, innerGot, lengthGot, newKey, orNewKey, findAt, find, literal}
 use Rattle.definition.specs.WellDeclared.{times, once, Twins, plainType, needs}
 use Rattle.definition.proofs.Lists.{last-in, snoc-cases, same-itself, times-snoc, times-in, lookup-in, lookup-out}
-use Rattle.definition.proofs.Sizes.{W, Under, Sized, SmallKind, SmallShape, SmallKey}
-use Rattle.definition.proofs.ByShape.{FitsIn, FitsLength, Formed, innerIds, lengthIds, Inside, SmallIn, SmallLength, uses-type, Deeper, twins-same, facts}
-use Rattle.definition.proofs.Sound.{Sound, Settled, Spelt, Held, declared-snoc, later, settled-declared, take-sound, begin-sound, declare-sound, other-sound, constants-sound, not-declared, taken-range}
+use Rattle.definition.proofs.Sizes.{W, Under, Sized, SmallKind, SmallShape}
+use Rattle.definition.proofs.ByShape.{taken, FitsIn, FitsLength, Formed, innerIds, lengthIds, Inside, SmallLength, uses-type, Deeper, twins-same, facts}
+use Rattle.definition.proofs.Sound.{Sound, Settled, Held, declared-snoc, settled-declared, take-sound, begin-sound, declare-sound, other-sound, constants-sound, not-declared, taken-range}
 
 -- what is entered and declared stays so
 pub record Grew (s t : State) : Type 0 where
@@ -107,7 +106,7 @@ free-grounded types l e h = record { entered = λ b m. absurd (List·Memᴰ·not
 inner-grounded : (types : List (Key × ℕ)) (l : Shape) → Grounds types l → GroundedIn types (inner l)
 inner-grounded types (scalar k) g = tt
 inner-grounded types (vector n k) g = free-grounded types (scalar k) refl (facts (vector n k) .small-inner (g .small))
-inner-grounded types (matrix c r w) g = free-grounded types (vector r (Rattle.definition.specs.Shapes.float w)) refl (facts (matrix c r w) .small-inner (g .small))
+inner-grounded types (matrix c r w) g = free-grounded types (vector r (float w)) refl (facts (matrix c r w) .small-inner (g .small))
 inner-grounded types (pointer b c) g = g .entered b (List·Memᴰ·head refl)
 inner-grounded types (valuePointer one k c) g = free-grounded types (scalar k) refl (facts (valuePointer one k c) .small-inner (g .small))
 inner-grounded types (valuePointer (many n) k c) g = free-grounded types (vector n k) refl (facts (valuePointer (many n) k c) .small-inner (g .small))
@@ -177,7 +176,7 @@ constant-writes : (s : State) (x : ℕ) (xs : List ℕ) → ((last : ℕ) → W 
 unfolding needs uses
 constant-writes s x xs small few = record {
   result = λ t id. refl;
-  formed = λ t id. record { small = lit< tt; known = refl; typed = refl; declares = refl; operands = refl };
+  formed = λ t id. taken tt;
   fits = λ last t id p q l. record { words = λ B w r. (omega arith, (omega arith, small B w)); short = omega arith };
   other = λ t id p. p;
   free = λ t id. refl;
@@ -193,7 +192,7 @@ unfolding needs uses
 bare-writes s = (
   record {
     result = λ t id. refl;
-    formed = λ t id. record { small = lit< tt; known = refl; typed = refl; declares = refl; operands = refl };
+    formed = λ t id. taken tt;
     fits = λ last t id p q l. record { words = λ B w r. (omega arith, (omega arith, tt)); short = lit< tt };
     other = λ t id p. p;
     free = λ t id. refl;
@@ -201,7 +200,7 @@ bare-writes s = (
   },
   record {
     result = λ t id. refl;
-    formed = λ t id. record { small = lit< tt; known = refl; typed = refl; declares = refl; operands = refl };
+    formed = λ t id. taken tt;
     fits = λ last t id p q l. record { words = λ B w r. (omega arith, (omega arith, tt)); short = lit< tt };
     other = λ t id p. p;
     free = λ t id. refl;

@@ -1,22 +1,22 @@
 -- What a type's fields give: numbers that fit a word, and a shape that names only entries that the type names.
-use Prim.Native.Nat.{ℕ, suc, zero, _+_, _*_, _<_, _≤_}
-use mathlib.Core.Path.{_≡_, refl, sym, ap, _∙_, subst}
-use mathlib.Core.List.{List, [], _∷_, _++_, List·Memᴰ, List·Memᴰ·not-nil}
+use Prim.Native.Nat.{ℕ, _*_, _≤_}
+use mathlib.Core.Path.{_≡_, subst}
+use mathlib.Core.List.{List, [], _∷_, List·Memᴰ}
 use mathlib.Core.Option.{Option, some, none}
 use mathlib.Core.Bool.{Bool, true, false, _&&_}
 use native.Mathlib.Omega.{arith}
 use lib.Dec.{T, eqb, leb, leb→le, lit≤}
-use lib.ListN.{length, getD}
+use lib.ListN.{length}
 use Rattle.definition.specs.Choice.{pick, every}
 use Rattle.definition.specs.Numbers.{ImageFormatUnknown}
 use Rattle.definition.specs.Sheet.{Member, TypeInner, TypeEntry}
 use Rattle.definition.specs.Sheet.{Scalar, Vector, Matrix, Atomic, Pointer, ValuePointer, Array, Struct, Image, Sampler, AccelerationStructure, RayQuery, BindingArray}
 use Rattle.definition.specs.Tests.{innerTypes}
 use Rattle.definition.specs.Shapes.{Kind, Count, Shape, Format, storageClass, kindOf, formats, formatAt, floating, dimOf, imageOf, countOf, shapeOf}
-use Rattle.definition.specs.Shapes.{sint, uint, float, bool, one, many, scalar, vector, matrix, pointer, valuePointer, image, sampler, accelerationStructure, rayQuery}
+use Rattle.definition.specs.Shapes.{sint, uint, float, bool, one, many, valuePointer}
 use Rattle.definition.specs.Rules.{innerAt, columnStride, matrixStride, elementOf}
-use Rattle.definition.proofs.Rows.{both-true}
-use Rattle.definition.proofs.Sizes.{W, Under, SmallKind, SmallShape}
+use Rattle.definition.proofs.Truth.{both-true, every-getD, pick-le, pick-for}
+use Rattle.definition.proofs.Sizes.{W, SmallKind, SmallShape}
 use Rattle.definition.proofs.Finding.{named}
 use Rattle.definition.proofs.Marks.{GoodName}
 
@@ -40,16 +40,6 @@ GoodInner (Sampler c) = Unit
 GoodInner AccelerationStructure = Unit
 GoodInner RayQuery = Unit
 GoodInner (BindingArray b n) = n ≤ W
-
--- ---- a choice between two numbers, and between two facts
-
-pick-le : (b : Bool) (x y B : ℕ) → x ≤ B → y ≤ B → pick b x y ≤ B
-pick-le true x y B p q = p
-pick-le false x y B p q = q
-
-pub pick-for {ℓ} : {A : Type ℓ} (P : A → Type 0) (b : Bool) (x y : A) → P x → P y → P (pick b x y)
-pick-for P true x y p q = p
-pick-for P false x y p q = q
 
 pub class-small : (s : ℕ) → storageClass s ≤ W
 class-small s =
@@ -77,11 +67,6 @@ smallFormat f = leb (f .number) 255 && smallKind (f .kind)
 all-small : T (every smallFormat formats)
 unfolding formats smallFormat smallKind
 all-small = tt
-
-every-getD : {A : Type 0} (P : A → Bool) (xs : List A) (i : ℕ) (d : A) → T (every P xs) → T (P d) → T (P (getD xs i d))
-every-getD P [] i d h t = t
-every-getD P (x ∷ xs) zero d h t = both-true (P x) (every P xs) h .0
-every-getD P (x ∷ xs) (suc i) d h t = every-getD P xs i d (both-true (P x) (every P xs) h .1) t
 
 small-kind : (k : Kind) → T (smallKind k) → SmallKind k
 unfolding smallKind

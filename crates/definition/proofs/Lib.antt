@@ -1,3 +1,4 @@
+pub mod Truth
 pub mod Rows
 pub mod Lists
 pub mod Sizes

@@ -1,16 +1,16 @@
 -- General facts on lists, counts and tables.
-use Prim.Native.Nat.{ℕ, suc, zero, _+_, _*_, _<_, _≤_, min}
-use mathlib.Core.Path.{_≡_, refl, sym, ap, _∙_, subst}
+use Prim.Native.Nat.{ℕ, suc, zero, _+_, _<_, _≤_, min}
+use mathlib.Core.Path.{_≡_, refl, sym, ap, _∙_}
 use mathlib.Core.Logic.{_⊎_, inl, inr, _≢_}
-use mathlib.Core.List.{List, [], _∷_, _++_, append-assoc, List·Memᴰ, List·Memᴰ·head, List·Memᴰ·tail, List·Memᴰ·append-cases, List·Memᴰ·eq-of-singleton, List·Memᴰ·not-nil, List·Memᴰ·cases-cons, Memᴰ·append-left, Memᴰ·append-right}
-use mathlib.Core.Option.{Option, some, none}
+use mathlib.Core.List.{List, [], _∷_, _++_, append-assoc, List·Memᴰ, List·Memᴰ·head, List·Memᴰ·tail, List·Memᴰ·append-cases, List·Memᴰ·eq-of-singleton, List·Memᴰ·not-nil, List·Memᴰ·cases-cons, Memᴰ·append-right, append-nil}
+use mathlib.Core.Option.{some, none}
 use mathlib.Core.Bool.{Bool, true, false}
 use native.Mathlib.Omega.{arith}
-use lib.Dec.{eqb, leb, T, eqb→eq, eqb-refl, leb→le, nleb→lt}
+use lib.ListN.{length, getD, getElem?}
+use lib.Dec.{eqb, leb, eqb→eq, leb→le, nleb→lt}
 use borrow.Author.Tests.{eq-eqb, ne-eqb, le-leb, lt-leb}
 use Rattle.definition.specs.Choice.{pick}
 use Rattle.definition.specs.Instructions.{Instruction}
-use Rattle.definition.specs.Reader.{uses}
 use Rattle.definition.specs.State.{lookup, same, occurrences, listed, listOne}
 use Rattle.definition.specs.WellDeclared.{times, once, Above, UsesDeclared, NoTwins, Twins, needs, needed, targets, targetOf}
 
@@ -83,7 +83,7 @@ times-in i (List·Memᴰ·tail m) = let h = times-in i m in omega arith
 
 -- what holds of lists that grow at the end
 pub above-snoc : (before xs : List Instruction) (x : Instruction) → Above before xs → UsesDeclared (before ++ xs) x → Above before (xs ++ x ∷ [])
-above-snoc before [] x h u = (rw mathlib.Core.List.append-nil at u, tt)
+above-snoc before [] x h u = (rw append-nil at u, tt)
 above-snoc before (y ∷ xs) x h u = (h .0, above-snoc (before ++ y ∷ []) xs x (h .1) (rw append-assoc u))
 
 pub twins-snoc : (xs : List Instruction) (x : Instruction) → NoTwins xs → ((j : Instruction) → List·Memᴰ j xs → Twins j x → ⊥) → NoTwins (xs ++ x ∷ [])
@@ -146,3 +146,29 @@ pub targets-append : (xs ys : List Instruction) → targets (xs ++ ys) ≡ targe
 unfolding targets
 targets-append [] ys = refl
 targets-append (x ∷ xs) ys = rw (targets-append xs ys) (sym (append-assoc (targetOf x) (targets xs) (targets ys)))
+
+-- ---- elements
+
+-- an element within the length is in the list
+pub getD-in : {A : Type 0} (xs : List A) (i : ℕ) (d : A) → i < length xs → List·Memᴰ (getD xs i d) xs
+getD-in [] i d l = absurd (omega arith)
+getD-in (x ∷ xs) zero d l = List·Memᴰ·head refl
+getD-in (x ∷ xs) (suc i) d l = List·Memᴰ·tail (getD-in xs i d (omega arith))
+
+-- what holds of every element, and of the default
+pub getD-snoc : {A : Type 0} (P : A → Type 0) (xs : List A) (a d : A) → ((h : ℕ) → P (getD xs h d)) → P a → (h : ℕ) → P (getD (xs ++ a ∷ []) h d)
+getD-snoc P [] a d f p zero = p
+getD-snoc P [] a d f p (suc h) = f 0
+getD-snoc P (x ∷ xs) a d f p zero = f 0
+getD-snoc P (x ∷ xs) a d f p (suc h) = getD-snoc P xs a d (λ k. f (suc k)) p h
+
+-- an element of the longer list is one of the shorter, or the last
+pub element-snoc : {A : Type 0} (xs : List A) (a b : A) (h : ℕ) → getElem? (xs ++ a ∷ []) h ≡ some b → (getElem? xs h ≡ some b) ⊎ ((h ≡ length xs) × (a ≡ b))
+element-snoc [] a b zero e = inr (refl, let q : some a ≡ some b = e in cc)
+element-snoc [] a b (suc h) e = let z : _≡_ {A = ℕ} 0 1 = cc in absurd (omega arith)
+element-snoc (x ∷ xs) a b zero e = inl e
+element-snoc (x ∷ xs) a b (suc h) e = go (element-snoc xs a b h e)
+  where
+    go : (getElem? xs h ≡ some b) ⊎ ((h ≡ length xs) × (a ≡ b)) → (getElem? (x ∷ xs) (suc h) ≡ some b) ⊎ ((suc h ≡ suc (length xs)) × (a ≡ b))
+    go (inl p) = inl p
+    go (inr p) = inr (ap suc (p .0), p .1)

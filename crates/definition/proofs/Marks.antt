@@ -1,20 +1,20 @@
 -- Names and decorations: each is an instruction that the reader takes, on an id that is taken, so the state stays sound.
-use Prim.Native.Nat.{ℕ, suc, zero, _+_, _*_, _<_, _≤_}
-use mathlib.Core.Path.{_≡_, refl, sym, ap, _∙_}
-use mathlib.Core.List.{List, [], _∷_, _++_, List·Memᴰ, List·Memᴰ·eq-of-singleton}
-use mathlib.Core.Option.{Option, some, none}
+use Prim.Native.Nat.{ℕ, _+_, _≤_}
+use mathlib.Core.Path.{_≡_, refl}
+use mathlib.Core.List.{List, [], _∷_, List·Memᴰ, List·Memᴰ·eq-of-singleton}
+use mathlib.Core.Option.{some, none}
 use mathlib.Core.Bool.{Bool, true, false}
 use native.Mathlib.Omega.{arith}
-use lib.Dec.{T, lit<}
 use lib.ListN.{length}
 use Rattle.definition.specs.Bytes.{Name}
 use Rattle.definition.specs.Instructions.{Instruction, packed, name, memberName, decorate, memberDecorate}
 use Rattle.definition.specs.Reader.{isString}
 use Rattle.definition.specs.State.{State, annotate, label}
-use Rattle.definition.specs.Rules.{labelIf, annotateIf, block}
+use Rattle.definition.specs.Rules.{labelIf, annotateIf}
 use Rattle.definition.specs.WellDeclared.{times, targets, targetOf}
+use Rattle.definition.proofs.ByShape.{taken}
 use Rattle.definition.proofs.Sizes.{W, Under, under-more}
-use Rattle.definition.proofs.Sound.{Sound, Note, pending, mark-sound, name-sound, taken-range}
+use Rattle.definition.proofs.Sound.{Sound, pending, mark-sound, name-sound, taken-range}
 use Rattle.definition.proofs.Finding.{Grew, grew-refl}
 
 -- a name whose words the reader takes for a string
@@ -72,7 +72,7 @@ module _ (start : ℕ) (id : ℕ) (P : List (ℕ × ℕ)) where
   decorate-sound d xs s dw xw few t h =
       mark-sound start id (decorate id d xs) P s
       (record {
-        formed = record { small = lit< tt; known = refl; typed = refl; declares = refl; operands = refl };
+        formed = taken tt;
         silent = refl;
         marking = tt;
         fits = record { words = λ B p q. (omega (arith, low s t h), (omega arith, under-more W B xs p xw)); short = omega arith };
@@ -83,7 +83,7 @@ module _ (start : ℕ) (id : ℕ) (P : List (ℕ × ℕ)) where
   member-sound i d xs s iw dw xw few t h =
       mark-sound start id (memberDecorate id i d xs) P s
       (record {
-        formed = record { small = lit< tt; known = refl; typed = refl; declares = refl; operands = refl };
+        formed = taken tt;
         silent = refl;
         marking = tt;
         fits = record { words = λ B p q. (omega (arith, low s t h), (omega arith, (omega arith, under-more W B xs p xw))); short = omega arith };
@@ -100,7 +100,7 @@ module _ (start : ℕ) (id : ℕ) (P : List (ℕ × ℕ)) where
   name-kept true (some bs) s g t h =
       name-sound start id (name id bs) P s
       (record {
-        formed = record { small = lit< tt; known = refl; typed = refl; declares = refl; operands = g .string };
+        formed = taken (rw (g .string) tt);
         silent = refl;
         marking = tt;
         fits = record { words = λ B p q. (omega (arith, low s t h), under-more W B (packed bs) p (g .words)); short = omega (arith, g .short) };
@@ -113,7 +113,7 @@ module _ (start : ℕ) (id : ℕ) (P : List (ℕ × ℕ)) where
   member-name-kept true i (some bs) s iw g t h =
       name-sound start id (memberName id i bs) P s
       (record {
-        formed = record { small = lit< tt; known = refl; typed = refl; declares = refl; operands = g .string };
+        formed = taken (rw (g .string) tt);
         silent = refl;
         marking = tt;
         fits = record { words = λ B p q. (omega (arith, low s t h), (omega arith, under-more W B (packed bs) p (g .words))); short = omega (arith, g .short) };

@@ -1,28 +1,26 @@
 -- What a record that passes the tests gives the rules: numbers that fit, since bytes are bytes, names that the reader takes for
 -- strings (test 9), a Compose short enough (tests 1 and 8), and references to entries already read (test 11).
-use Prim.Native.Nat.{ℕ, suc, zero, _+_, _*_, _-_, _/_, _%_, _<_, _≤_}
-use mathlib.Core.Path.{_≡_, refl, sym, ap, _∙_, subst}
-use mathlib.Core.List.{List, [], _∷_, _++_, List·Memᴰ}
-use mathlib.Core.Option.{Option, some, none}
-use mathlib.Core.Bool.{Bool, true, false, _&&_, not}
+use Prim.Native.Nat.{ℕ, suc, zero, _+_, _<_, _≤_}
+use mathlib.Core.Path.{_≡_, refl, ap}
+use mathlib.Core.List.{List, List·Memᴰ, List·Memᴰ·head}
+use mathlib.Core.Bool.{true}
 use native.Mathlib.Omega.{arith}
-use lib.Dec.{T, eqb, leb, ltb, ltb→lt, eqb→eq, lit≤}
+use lib.Dec.{T, eqb, ltb, ltb→lt, eqb→eq}
 use lib.ListN.{length}
-use Rattle.definition.specs.Choice.{pick, unless, first, every}
-use Rattle.definition.specs.Bytes.{u8At, u16At, u32At, u64At, nameAt, nameEnd}
+use Rattle.definition.specs.Choice.{every}
+use Rattle.definition.specs.Bytes.{u8At, u16At, nameAt, nameEnd}
 use Rattle.definition.specs.Utf8.{nameFits}
-use Rattle.definition.specs.Literals.{Literal, f64, f32, u32, i32, boolean}
-use Rattle.definition.specs.Sheet.{Record, Member, TypeInner, TypeEntry, Expression, Global, Remap, Entry, Fields, ending, u16sAt, membersAt, structFields, typeFields, formOf, literalFields, constantFields, initOf, globalFields, availableFields, remapFields, mapFields, typeEntry, tagRank, entryOf}
-use Rattle.definition.specs.Sheet.{Scalar, Vector, Matrix, Atomic, Pointer, ValuePointer, Array, Struct, Image, Sampler, AccelerationStructure, RayQuery, BindingArray}
-use Rattle.definition.specs.Sheet.{Value, Alias, ZeroValue, Compose, Splat, available, remap, type, constant, global}
-use Rattle.definition.specs.Tests.{Seen, placeTest, formKnown, memberNames, innerNames, namesOf, valuesFit, innerTypes, expressionTypes, expressionConstants, typesNamed, constantsNamed, initList, below, readAlready, repeated, entryTest, readingTest}
-use Rattle.definition.proofs.Rows.{both-true, every-one}
+use Rattle.definition.specs.Literals.{Literal}
+use Rattle.definition.specs.Sheet.{Record, TypeInner, TypeEntry, Expression, Global, Entry, Fields, u16sAt, membersAt, typeFields, formOf, literalFields, constantFields, globalFields, remapFields, mapFields, typeEntry, tagRank, entryOf}
+use Rattle.definition.specs.Sheet.{Compose, available, remap, type, constant, global}
+use Rattle.definition.specs.Tests.{Seen, placeTest, formKnown, memberNames, innerNames, namesOf, valuesFit, innerTypes, expressionTypes, expressionConstants, typesNamed, constantsNamed, initList, below, readAlready, entryTest, readingTest}
+use Rattle.definition.proofs.Truth.{both-true, every-one, pick-for, first-passed, unless-passed}
 use Rattle.definition.proofs.Sizes.{W, Under}
 use Rattle.definition.proofs.Finding.{SmallLiteral}
 use Rattle.definition.proofs.Marks.{GoodName}
-use Rattle.definition.proofs.Inners.{GoodMembers, GoodInner, pick-for}
+use Rattle.definition.proofs.Inners.{GoodMembers, GoodInner}
 use Rattle.definition.proofs.Values.{GoodExpression, GoodGlobal}
-use Rattle.definition.proofs.Bounds.{u8-small, u16-small, u32-small, u64-small, name-good}
+use Rattle.definition.proofs.Bounds.{u8-small, u32-small, u64-small, name-good}
 
 -- ---- an entry that the rules may work on, given what was read before it
 
@@ -49,14 +47,6 @@ GoodEntry n (constant e) = GoodConstant n e
 GoodEntry n (global g) = GoodVariable n g
 
 -- ---- what the tests say
-
-pub first-passed : (a b : ℕ) → first a b ≡ 0 → (a ≡ 0) × (b ≡ 0)
-first-passed zero b e = (refl, e)
-first-passed (suc a) b e = absurd (omega arith)
-
-pub unless-passed : (t : Bool) (n later : ℕ) → unless t (suc n) later ≡ 0 → T t × (later ≡ 0)
-unless-passed true n later e = (tt, e)
-unless-passed false n later e = absurd (omega arith)
 
 below-in : (n : ℕ) (xs : List ℕ) → T (below n xs) → (x : ℕ) → List·Memᴰ x xs → x < n
 below-in n xs t x m = ltb→lt x n (every-one (λ (y : ℕ). ltb y n) xs t x m)
@@ -165,7 +155,7 @@ module _ (r : Record) (u : Under 255 (r .body)) (few : length (r .body) ≤ 1638
         (pick-for EntryPasses (eqb (tagRank (r .tag)) 4) _ _ (λ p. record { good = constant-passes (r .tag) (p .whole); types = p .types; constants = p .constants })
         (λ p. record {
           good = record { name = name-good (r .body) 0 u (both-true (nameFits (nameAt (r .body) 0)) true (p .names) .0); group = u32-small (r .body) u (nameEnd (r .body) 0 + 5); binding = u32-small (r .body) u (nameEnd (r .body) 0 + 9) };
-          type = p .types (u16At (r .body) (nameEnd (r .body) 0)) (mathlib.Core.List.List·Memᴰ·head refl);
+          type = p .types (u16At (r .body) (nameEnd (r .body) 0)) (List·Memᴰ·head refl);
           init = p .constants;
         }))))
       where

@@ -1,18 +1,18 @@
 -- Reading the written words gives the instructions back: each instruction's first word tells how many words it has, and its
 -- layout takes its body apart again.
 use Prim.Native.Nat.{ℕ, suc, zero, _+_, _*_, _-_, _/_, _%_, _<_, _≤_}
-use mathlib.Core.Path.{_≡_, refl, sym, ap, _∙_, subst}
+use mathlib.Core.Path.{_≡_, refl, ap, _∙_}
 use mathlib.Core.List.{List, [], _∷_, _++_, List·Memᴰ, List·Memᴰ·head, List·Memᴰ·tail}
 use mathlib.Core.Option.{Option, some, none}
-use mathlib.Core.Bool.{Bool, true, false, _&&_}
+use mathlib.Core.Bool.{true}
 use native.Mathlib.Omega.{arith}
 use borrow.Author.Tests.{le-leb, lt-ltb}
-use lib.Dec.{leb, ltb}
+use lib.Dec.{leb}
 use lib.ListN.{length, take, drop, length-append}
 use lib.Seq.{take-at, drop-at}
-use Rattle.definition.specs.Choice.{pick, every}
-use Rattle.definition.specs.Instructions.{Instruction, optional, body, words, allWords, header}
-use Rattle.definition.specs.Reader.{layoutOf, formed, split, checked, joined, readOne, readAll, Module, moduleOf, isWord, readModule}
+use Rattle.definition.specs.Choice.{every}
+use Rattle.definition.specs.Instructions.{Instruction, optional, body, words, allWords}
+use Rattle.definition.specs.Reader.{layoutOf, formed, split, checked, joined, readOne, readAll, isWord, readModule}
 use Rattle.definition.specs.State.{State, boundOf, instructions, moduleWords}
 use Rattle.definition.specs.WellDeclared.{declaring}
 use Rattle.definition.proofs.Sizes.{W, Under, under-append, Sized}

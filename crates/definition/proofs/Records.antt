@@ -1,52 +1,33 @@
 -- The records of a sheet, one after the other: what holds of the progress before a record that passes holds after it, so it holds
 -- of the progress with which a sheet is fit.
-use Prim.Native.Nat.{ℕ, suc, zero, _+_, _*_, _-_, _<_, _≤_}
-use mathlib.Core.Path.{_≡_, refl, sym, ap, _∙_, subst}
+use Prim.Native.Nat.{ℕ, suc, zero, _+_, _-_, _<_, _≤_}
+use mathlib.Core.Path.{_≡_, refl, ap, _∙_, subst}
 use mathlib.Core.Logic.{_⊎_, inl, inr}
 use mathlib.Core.List.{List, [], _∷_, _++_, List·Memᴰ, List·Memᴰ·head, List·Memᴰ·tail, List·Memᴰ·not-nil}
-use mathlib.Core.Option.{Option, some, none}
-use mathlib.Core.Bool.{Bool, true, false, _&&_}
+use mathlib.Core.Option.{some}
+use mathlib.Core.Bool.{Bool, true, false}
 use native.Mathlib.Omega.{arith}
-use lib.Dec.{T, eqb, leb, leb→le}
-use lib.ListN.{length, getD, getElem?, take, drop, length-take, length-drop, length-append}
+use lib.Dec.{eqb, leb, leb→le}
+use lib.ListN.{length, getElem?, drop, length-take, length-drop, length-append}
 use Rattle.definition.specs.Choice.{pick, within}
 use Rattle.definition.specs.Bytes.{u16At}
-use Rattle.definition.specs.Sheet.{Options, Record, TypeInner, TypeEntry, Expression, Global, Remap, Entry, recordAt, afterRecord, headerLength, versionOf, startOf, flagsOf, optionsOf, entryOf, tagRank, available, remap, type, constant, global}
-use Rattle.definition.specs.Tests.{sheetLeast, sheetMost, headerTest, Seen, nothing, add, addRecord, noRecord, readingTest, Judged, refused, fit, judge, records, innerTypes}
-use Rattle.definition.specs.Shapes.{Shape, Key, shapeOf, entry, shape}
-use Rattle.definition.specs.State.{State, empty, boundOf}
-use Rattle.definition.specs.Rules.{noEntry, innerAt, declareEntry, declareType, declareConstant, declareGlobal}
+use Rattle.definition.specs.Sheet.{Options, Record, TypeEntry, Expression, Global, Remap, Entry, recordAt, afterRecord, headerLength, startOf, flagsOf, optionsOf, entryOf, tagRank, available, remap, type, constant, global}
+use Rattle.definition.specs.Tests.{sheetLeast, sheetMost, headerTest, add, addRecord, noRecord, readingTest, Judged, refused, fit, judge, records, innerTypes}
+use Rattle.definition.specs.Shapes.{Key, shapeOf}
+use Rattle.definition.specs.State.{State, boundOf}
+use Rattle.definition.specs.Rules.{noEntry, declareEntry, declareType, declareConstant, declareGlobal}
 use Rattle.definition.specs.Unfit.{fitnessTest}
 use Rattle.definition.specs.Operations.{Progress, begin, recordTest, declareRecord, boundMost, boundTest, judged}
 use Rattle.definition.specs.WellDeclared.{IsBytes}
-use Rattle.definition.proofs.Rows.{both-true}
+use Rattle.definition.proofs.Truth.{both-true, first-passed, unless-passed}
+use Rattle.definition.proofs.Lists.{getD-snoc, element-snoc}
 use Rattle.definition.proofs.Sizes.{W, Under}
 use Rattle.definition.proofs.Sound.{Sound, start-sound}
 use Rattle.definition.proofs.Inners.{GoodInner, GoodTypes}
-use Rattle.definition.proofs.Types.{Known, HasShapeId, Told, told-more, Done, type-done}
+use Rattle.definition.proofs.Types.{Told, told-more, type-done}
 use Rattle.definition.proofs.Values.{Referring, GoodRemaps, Read, read-more, global-kept, constant-kept}
 use Rattle.definition.proofs.Bounds.{under-take, under-drop}
-use Rattle.definition.proofs.Passing.{GoodEntry, GoodType, GoodConstant, GoodVariable, Passed, first-passed, unless-passed, reading-passed, entry-good}
-
--- ---- one more at the end of a list
-
--- what holds of every element, and of the default
-getD-snoc : {A : Type 0} (P : A → Type 0) (xs : List A) (a d : A) → ((h : ℕ) → P (getD xs h d)) → P a → (h : ℕ) → P (getD (xs ++ a ∷ []) h d)
-getD-snoc P [] a d f p zero = p
-getD-snoc P [] a d f p (suc h) = f 0
-getD-snoc P (x ∷ xs) a d f p zero = f 0
-getD-snoc P (x ∷ xs) a d f p (suc h) = getD-snoc P xs a d (λ k. f (suc k)) p h
-
--- an element of the longer list is one of the shorter, or the last
-element-snoc : {A : Type 0} (xs : List A) (a b : A) (h : ℕ) → getElem? (xs ++ a ∷ []) h ≡ some b → (getElem? xs h ≡ some b) ⊎ ((h ≡ length xs) × (a ≡ b))
-element-snoc [] a b zero e = inr (refl, let q : some a ≡ some b = e in cc)
-element-snoc [] a b (suc h) e = let z : _≡_ {A = ℕ} 0 1 = cc in absurd (omega arith)
-element-snoc (x ∷ xs) a b zero e = inl e
-element-snoc (x ∷ xs) a b (suc h) e = go (element-snoc xs a b h e)
-  where
-    go : (getElem? xs h ≡ some b) ⊎ ((h ≡ length xs) × (a ≡ b)) → (getElem? (x ∷ xs) (suc h) ≡ some b) ⊎ ((suc h ≡ suc (length xs)) × (a ≡ b))
-    go (inl p) = inl p
-    go (inr p) = inr (ap suc (p .0), p .1)
+use Rattle.definition.proofs.Passing.{GoodEntry, GoodType, GoodConstant, GoodVariable, reading-passed, entry-good}
 
 remaps-snoc : (ms : List Remap) (m : Remap) → GoodRemaps ms → m .size ≤ W → GoodRemaps (ms ++ m ∷ [])
 remaps-snoc [] m g h = (h, tt)

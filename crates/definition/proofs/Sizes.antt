@@ -1,13 +1,11 @@
 -- Numbers that fit a word. An instruction's ids are at most the last id taken, its other words have 32 bits: so all its words
 -- lie under any bound that both do, and at the end, once the ids are few, under 2^32.
-use Prim.Native.Nat.{ℕ, _+_, _*_, _<_, _≤_}
+use Prim.Native.Nat.{ℕ, _<_, _≤_}
 use mathlib.Core.List.{List, [], _∷_, _++_}
-use mathlib.Core.Option.{Option, some, none}
 use native.Mathlib.Omega.{arith}
-use lib.Dec.{lit<, lit≤}
 use lib.ListN.{length}
 use Rattle.definition.specs.Instructions.{Instruction, body}
-use Rattle.definition.specs.Shapes.{Kind, Count, Shape, Key, storageClass}
+use Rattle.definition.specs.Shapes.{Kind, Shape, Key, storageClass}
 use Rattle.definition.specs.Shapes.{sint, uint, float, bool, one, many, scalar, vector, matrix, pointer, valuePointer, image, sampler, accelerationStructure, rayQuery, bindingArray, bindingPointer, entry, shape}
 
 -- the largest word

@@ -1,8 +1,8 @@
 -- What holds of the state at every moment, ids that are taken and not yet declared counted, and that every step keeps it.
-use Prim.Native.Nat.{ℕ, suc, zero, _+_, _*_, _<_, _≤_, min}
+use Prim.Native.Nat.{ℕ, suc, _+_, _<_, _≤_, min}
 use mathlib.Core.Path.{_≡_, refl, sym, ap, _∙_, subst}
 use mathlib.Core.Logic.{_⊎_, inl, inr}
-use mathlib.Core.List.{List, [], _∷_, _++_, List·Memᴰ, List·Memᴰ·head, List·Memᴰ·tail, List·Memᴰ·not-nil, List·Memᴰ·cases-cons, List·Memᴰ·append-cases, Memᴰ·append-left, Memᴰ·append-right, Memᴰ·cast}
+use mathlib.Core.List.{List, [], _∷_, _++_, List·Memᴰ, List·Memᴰ·head, List·Memᴰ·tail, List·Memᴰ·not-nil, List·Memᴰ·cases-cons, List·Memᴰ·append-cases, Memᴰ·append-left}
 use mathlib.Core.Option.{Option, some, none}
 use mathlib.Core.Bool.{Bool, true, false}
 use native.Mathlib.Omega.{arith}
@@ -10,13 +10,12 @@ use lib.Dec.{T, leb}
 use borrow.Author.Tests.{leb-true, leb-false}
 use Rattle.definition.specs.Instructions.{Instruction}
 use Rattle.definition.specs.Reader.{uses}
-use Rattle.definition.specs.Literals.{Literal}
-use Rattle.definition.specs.Shapes.{Kind, Shape, Key, inner, sized, rankOf, opcodeOf, typeOf, entry, shape}
-use Rattle.definition.specs.State.{Composite, Valued, Constants, State, same, occurrences, listed, takeId, enter, withConstants, annotate, label, declare, declareWith, empty}
-use Rattle.definition.specs.WellDeclared.{times, once, Above, UsesDeclared, NoTwins, Twins, needs, needed, plainType, targets, marks}
-use Rattle.definition.proofs.Lists.{targets-append, last-in, snoc-cases, same-itself, upTo, upTo-in, upTo-out, upTo-suc, times-snoc, times-in, above-snoc, twins-snoc, listed-count, needed-snoc}
+use Rattle.definition.specs.Shapes.{Kind, Shape, Key, inner, sized, rankOf, typeOf, entry, shape}
+use Rattle.definition.specs.State.{Valued, Constants, State, same, occurrences, takeId, enter, withConstants, annotate, label, declare, declareWith, empty}
+use Rattle.definition.specs.WellDeclared.{times, once, Above, NoTwins, Twins, needs, needed, plainType, targets, marks}
+use Rattle.definition.proofs.Lists.{targets-append, snoc-cases, same-itself, upTo, upTo-in, upTo-out, upTo-suc, times-snoc, times-in, above-snoc, twins-snoc, listed-count, needed-snoc}
 use Rattle.definition.proofs.Sizes.{Sized, sized-up, SmallKind}
-use Rattle.definition.proofs.ByShape.{FitsIn, FitsLength, Formed, innerIds, uses-type, twins-same, facts}
+use Rattle.definition.proofs.ByShape.{FitsIn, FitsLength, Formed, facts}
 
 -- ids that are taken and not yet declared, each with how deep its shape nests
 abbrev pub pending : ℕ → List (ℕ × ℕ) → ℕ

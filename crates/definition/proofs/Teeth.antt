@@ -1,13 +1,13 @@
 -- The record of demand 3 says something: six wrong modules that it turns down, and one that it does not.
-use Prim.Native.Nat.{ℕ, suc, zero, _+_, _*_, _<_, _≤_, min}
+use Prim.Native.Nat.{zero}
 use mathlib.Core.Path.{_≡_, refl}
-use mathlib.Core.List.{List, [], _∷_, List·Memᴰ·head}
-use mathlib.Core.Option.{Option, some, none}
+use mathlib.Core.List.{[], _∷_, List·Memᴰ·head}
+use mathlib.Core.Option.{some, none}
 use native.Mathlib.Omega.{arith}
 use lib.Dec.{lit<}
-use Rattle.definition.specs.Instructions.{Instruction, typeFloat, typeInt, typeVector, decorate, words, allWords, header}
+use Rattle.definition.specs.Instructions.{typeFloat, typeInt, typeVector, decorate}
 use Rattle.definition.specs.Numbers.{CapabilityInt8, DecorationArrayStride}
-use Rattle.definition.specs.Reader.{uses, readModule, readAll, isString, Module}
+use Rattle.definition.specs.Reader.{uses, readModule, readAll, isString}
 use Rattle.definition.specs.State.{occurrences}
 use Rattle.definition.specs.WellDeclared.{WellDeclared, times, targets, targetOf, needs, needed, listedIn, listedBy}
 

@@ -1,33 +1,34 @@
 -- Declaring a type keeps the state sound: a shape is found; an aggregate takes its id, finds what it names, and is declared under
 -- that id; the entry's own key comes last.
-use Prim.Native.Nat.{ℕ, suc, zero, _+_, _*_, _<_, _≤_}
-use mathlib.Core.Path.{_≡_, refl, sym, ap, _∙_, subst}
+use Prim.Native.Nat.{ℕ, suc, zero, _+_, _<_, _≤_}
+use mathlib.Core.Path.{_≡_, refl, ap, _∙_}
 use mathlib.Core.Logic.{_⊎_, inl, inr}
 use mathlib.Core.List.{List, [], _∷_, _++_, List·Memᴰ, List·Memᴰ·head, List·Memᴰ·tail, List·Memᴰ·not-nil, Memᴰ·append-left}
 use mathlib.Core.Option.{Option, some, none}
-use mathlib.Core.Bool.{Bool, true, false}
+use mathlib.Core.Bool.{Bool}
 use native.Mathlib.Omega.{arith}
 use native.Mathlib.Decide.{ℕ-discrete}
-use lib.Dec.{T, lit<, lit≤}
+use lib.Dec.{lit<, lit≤}
 use lib.ListN.{length}
 use Rattle.definition.specs.Numbers.{DecorationBlock, DecorationColMajor, DecorationArrayStride, DecorationMatrixStride, DecorationOffset}
 use Rattle.definition.specs.Literals.{u32}
-use Rattle.definition.specs.Instructions.{Instruction, name, memberName, decorate, memberDecorate, typeArray, typeRuntimeArray, typeStruct}
+use Rattle.definition.specs.Instructions.{name, memberName, decorate, memberDecorate, typeArray, typeRuntimeArray, typeStruct}
 use Rattle.definition.specs.Reader.{uses}
 use Rattle.definition.specs.Sheet.{Member, TypeInner, TypeEntry}
 use Rattle.definition.specs.Sheet.{Scalar, Vector, Matrix, Atomic, Pointer, ValuePointer, Array, Struct, Image, Sampler, AccelerationStructure, RayQuery, BindingArray}
 use Rattle.definition.specs.Tests.{innerTypes, memberTypes}
 use Rattle.definition.specs.Shapes.{Shape, Key, shapeOf, entry, shape}
-use Rattle.definition.specs.State.{State, Got, takeId, enter, annotate, declare}
+use Rattle.definition.specs.State.{State, Got, takeId, enter, annotate}
 use Rattle.definition.specs.Finding.{find, literal}
 use Rattle.definition.specs.Rules.{innerAt, matrixStride, elementOf, strideMember, labelIf, decorateMember, GotAll, declareMembers, anyDynamic, annotateIf, block, declareArray, declareStruct, declareAggregate, declareInner, declareType}
 use Rattle.definition.specs.WellDeclared.{times, needs}
 use Rattle.definition.proofs.Lists.{last-in, snoc-cases, same-itself}
-use Rattle.definition.proofs.Sizes.{W, Under, Sized, under-more}
+use Rattle.definition.proofs.ByShape.{taken}
+use Rattle.definition.proofs.Sizes.{W, Under, under-more}
 use Rattle.definition.proofs.Sound.{Sound, take-sound, entry-sound, other-sound}
-use Rattle.definition.proofs.Finding.{GotId, AllDeclared, one-declared, more-declared, just-declared, Grew, grew-refl, grew-trans, declare-grew, take-grew, Over, Entered, Grounded, Found, find-found, findAt-found, literal-found, low}
+use Rattle.definition.proofs.Finding.{AllDeclared, one-declared, more-declared, just-declared, Grew, grew-refl, grew-trans, declare-grew, take-grew, Entered, Found, find-found, literal-found, low}
 use Rattle.definition.proofs.Marks.{GoodName, Taken, annotate-grew, annotateIf-grew, labelIf-grew, decorate-sound, member-sound, decorateIf-sound, name-kept, member-name-kept}
-use Rattle.definition.proofs.Inners.{GoodMembers, GoodInner, GoodTypes, SmallStride, member-stride, ShapeFacts, shape-facts}
+use Rattle.definition.proofs.Inners.{GoodMembers, GoodInner, GoodTypes, SmallStride, member-stride, shape-facts}
 
 -- ids that are declared are at most the last one taken
 pub under-declared : (start : ℕ) (P : List (ℕ × ℕ)) (s : State) (xs : List ℕ) → Sound start P s → AllDeclared xs s → Under (s .last) xs
@@ -129,7 +130,7 @@ module _ (start : ℕ) where
       let d = typeRuntimeArray id (base .id) in
       let P : List (ℕ × ℕ) = (9, id) ∷ [] in
       record {
-        sound = other-sound start id [] (base .state) d refl (record { small = lit< tt; known = refl; typed = refl; declares = refl; operands = refl })
+        sound = other-sound start id [] (base .state) d refl (taken tt)
             (record { words = λ B p q. (omega arith, (omega (arith, low start P (base .state) (base .id) h old), tt)); short = lit< tt }) (λ t. t) refl (one-declared (base .id) (base .state) old) h;
         grew = declare-grew d (base .state);
         declared = just-declared id d (base .state) refl;
@@ -141,7 +142,7 @@ module _ (start : ℕ) where
       let d = typeArray id (base .id) (c .id) in
       let b₂ : 1 ≤ times (base .id) (c .state .declarations) = omega (arith, r .grew .still (base .id)) in
       record {
-        sound = other-sound start id [] (c .state) d refl (record { small = lit< tt; known = refl; typed = refl; declares = refl; operands = refl })
+        sound = other-sound start id [] (c .state) d refl (taken tt)
             (record { words = λ B p q. (omega (arith, r .grew .up), (omega (arith, low start P (c .state) (base .id) (r .sound) b₂), (omega (arith, low start P (c .state) (c .id) (r .sound) (r .declared)), tt))); short = lit< tt }) (λ t. t) refl
             (more-declared (base .id) (c .id ∷ []) (c .state) b₂ (one-declared (c .id) (c .state) (r .declared))) (r .sound);
         grew = grew-trans (r .grew) (declare-grew d (c .state));
@@ -161,7 +162,7 @@ module _ (start : ℕ) where
       let d = typeStruct id (r .ids) in
       let u : AllDeclared (r .ids) a = λ x m. omega (arith, q .declared x m, w .still x) in
       record {
-        sound = other-sound start id [] a d refl (record { small = lit< tt; known = refl; typed = refl; declares = refl; operands = refl })
+        sound = other-sound start id [] a d refl (taken tt)
             (record { words = λ B p l. (omega (arith, q .grew .up, w .up), under-more (a .last) B (r .ids) (omega arith) (under-declared start P a (r .ids) ha u)); short = omega (arith, q .count) }) (λ t. t) refl u ha;
         grew = grew-trans (q .grew) (grew-trans w (declare-grew d a));
         declared = just-declared id d a refl;

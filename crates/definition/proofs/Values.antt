@@ -1,33 +1,35 @@
 -- Declaring a constant or a global keeps the state sound: each takes its id, finds what it names, and is declared under that id.
-use Prim.Native.Nat.{ℕ, suc, zero, _+_, _*_, _/_, _%_, _<_, _≤_}
-use mathlib.Core.Path.{_≡_, refl, sym, ap, _∙_, subst}
+use Prim.Native.Nat.{ℕ, suc, zero, _/_, _%_, _<_, _≤_}
+use mathlib.Core.Path.{_≡_, refl, ap, _∙_}
 use mathlib.Core.Logic.{_⊎_, inl, inr}
-use mathlib.Core.List.{List, [], _∷_, _++_, List·Memᴰ, List·Memᴰ·head, List·Memᴰ·tail, List·Memᴰ·not-nil, List·Memᴰ·cases-cons, List·Memᴰ·eq-of-singleton}
+use mathlib.Core.List.{List, [], _∷_, List·Memᴰ, List·Memᴰ·head, List·Memᴰ·tail, List·Memᴰ·not-nil, List·Memᴰ·cases-cons, List·Memᴰ·eq-of-singleton}
 use mathlib.Core.Option.{Option, some, none}
-use mathlib.Core.Bool.{Bool, true, false, _&&_, _||_}
+use mathlib.Core.Bool.{Bool, true, false, _&&_}
 use native.Mathlib.Omega.{arith}
 use native.Mathlib.Decide.{ℕ-discrete}
-use lib.Dec.{T, eqb, lit<, lit≤}
-use lib.ListN.{length, getD, replicate, length-replicate}
-use Rattle.definition.specs.Choice.{pick, orElse}
+use lib.Dec.{eqb, lit<, lit≤}
+use lib.ListN.{length, replicate, length-replicate, length-append}
+use Rattle.definition.specs.Choice.{orElse}
 use Rattle.definition.specs.Numbers.{DecorationBlock, DecorationNonWritable, DecorationNonReadable, DecorationBinding, DecorationDescriptorSet}
-use Rattle.definition.specs.Instructions.{Instruction, optional, name, decorate, typeStruct, typePointer, constantComposite, constantNull, variable}
+use Rattle.definition.specs.Instructions.{optional, name, decorate, typeStruct, typePointer, constantComposite, constantNull, variable}
 use Rattle.definition.specs.Reader.{uses}
 use Rattle.definition.specs.Sheet.{Options, Member, TypeInner, TypeEntry, Expression, Global, Remap}
 use Rattle.definition.specs.Sheet.{Scalar, Vector, Matrix, Atomic, Pointer, ValuePointer, Array, Struct, Image, Sampler, AccelerationStructure, RayQuery, BindingArray}
 use Rattle.definition.specs.Sheet.{Value, Alias, ZeroValue, Compose, Splat}
 use Rattle.definition.specs.Tests.{Seen, storage, innerTypes, expressionTypes, expressionConstants, initList}
-use Rattle.definition.specs.Shapes.{Kind, Shape, Key, storageClass, kindOf, rank, bool, scalar, vector, pointer, bindingPointer, entry, shape}
-use Rattle.definition.specs.State.{Valued, Constants, Composite, composite, sameComposite, State, Got, lookup, takeId, withConstants, annotate, declare}
-use Rattle.definition.specs.Finding.{literalKind, find, literal, enterComposite, enterNull, compositeOf, orNewNull, nullOf}
-use Rattle.definition.specs.Rules.{innerAt, labelIf, annotateIf, block, noValue, valueAt, idsOf, kindOfScalar, GotValue, constantOf, enterValue, declareConstant, imageAccess, accessOf, decorateAccess, decorateBinding, isBound, needsWrapper, bindingBase, remapOf, Way, direct, wrapped, remapped, remappedWay, wayOf, wrap, decorateMember, pointerOf, blockBase, getsNull, GotInit, initFor, declareGlobal}
+use Rattle.definition.specs.Shapes.{Kind, Key, storageClass, rank, bool, vector, pointer, bindingPointer, entry, shape}
+use Rattle.definition.specs.State.{Valued, Composite, composite, sameComposite, State, lookup, takeId, annotate, declare}
+use Rattle.definition.specs.Finding.{find, enterComposite, enterNull, compositeOf, orNewNull, nullOf}
+use Rattle.definition.specs.Rules.{innerAt, labelIf, annotateIf, block, noValue, valueAt, idsOf, kindOfScalar, GotValue, constantOf, enterValue, declareConstant, accessOf, decorateAccess, decorateBinding, isBound, needsWrapper, bindingBase, remapOf, Way, direct, wrapped, remapped, remappedWay, wayOf, wrap, decorateMember, pointerOf, blockBase, getsNull, GotInit, initFor, declareGlobal}
 use Rattle.definition.specs.WellDeclared.{times, needs}
-use Rattle.definition.proofs.Lists.{last-in, snoc-cases, same-itself, lookup-in}
-use Rattle.definition.proofs.Sizes.{W, Under, under-more, SmallKind}
-use Rattle.definition.proofs.Sound.{Sound, Held, SmallOption, declared-snoc, take-sound, other-sound, constants-sound}
-use Rattle.definition.proofs.Finding.{GotId, AllDeclared, Writes, Keeps, SmallLiteral, one-declared, more-declared, just-declared, Grew, grew-refl, grew-trans, declare-grew, take-grew, constants-grew, Over, Entered, Grounded, free-grounded, Found, Finds, find-found, value-found, literal-found, low}
+use Rattle.definition.proofs.Truth.{pick-for}
+use Rattle.definition.proofs.Lists.{snoc-cases, same-itself, lookup-in, getD-in}
+use Rattle.definition.proofs.ByShape.{taken}
+use Rattle.definition.proofs.Sizes.{W, under-more, SmallKind}
+use Rattle.definition.proofs.Sound.{Sound, SmallOption, declared-snoc, take-sound, other-sound, constants-sound}
+use Rattle.definition.proofs.Finding.{GotId, AllDeclared, Writes, Keeps, SmallLiteral, one-declared, more-declared, just-declared, Grew, grew-refl, grew-trans, declare-grew, take-grew, constants-grew, Over, Entered, Grounded, free-grounded, Found, Finds, find-found, value-found, literal-found, low, small-literal-kind}
 use Rattle.definition.proofs.Marks.{GoodName, Taken, annotate-grew, annotateIf-grew, labelIf-grew, decorate-sound, decorateIf-sound, name-kept}
-use Rattle.definition.proofs.Inners.{GoodInner, GoodTypes, class-small, kind-small, pick-for}
+use Rattle.definition.proofs.Inners.{GoodInner, GoodTypes, class-small, kind-small}
 use Rattle.definition.proofs.Types.{Kept, Known, under-declared, member-kept}
 
 -- ---- what is asked of constants and globals
@@ -62,12 +64,6 @@ read-more g r = record {
   types = record { all = λ h l. let q = r .types .all h l in (q .0, g .more (entry h) (q .0) (q .1)); only = λ h i m. r .types .only h i (g .fresh h i m) };
   constants = ap length (g .values) ∙ r .constants;
 }
-
--- an element within the length is in the list
-getD-in : {A : Type 0} (xs : List A) (i : ℕ) (d : A) → i < length xs → List·Memᴰ (getD xs i d) xs
-getD-in [] i d l = absurd (omega arith)
-getD-in (x ∷ xs) zero d l = List·Memᴰ·head refl
-getD-in (x ∷ xs) (suc i) d l = List·Memᴰ·tail (getD-in xs i d (omega arith))
 
 small-scalar : (i : TypeInner) → GoodInner i → SmallOption (kindOfScalar i)
 small-scalar (Scalar k w) g = kind-small k w g
@@ -149,7 +145,7 @@ module _ (start : ℕ) where
   unfolding needs uses
   composite-writes xs P s few old h = record {
     result = λ t id. refl;
-    formed = λ t id. record { small = lit< tt; known = refl; typed = refl; declares = refl; operands = refl };
+    formed = λ t id. taken tt;
     fits = λ last t id p q l. record { words = λ B w r. (omega arith, (omega arith, under-more (s .last) B xs (omega arith) (under-declared start P s xs h old))); short = omega arith };
     other = λ t id p. p;
     free = λ t id. refl;
@@ -178,7 +174,7 @@ module _ (start : ℕ) where
           let d = constantNull t id in
           let u = declare d (takeId s) in
           let new : 1 ≤ times id (u .declarations) = just-declared id d (takeId s) refl in
-          let hu : Sound start P u = other-sound start id P (takeId s) d refl (record { small = lit< tt; known = refl; typed = refl; declares = refl; operands = refl })
+          let hu : Sound start P u = other-sound start id P (takeId s) d refl (taken tt)
           (record { words = λ B p q. (omega (arith, low start P s t h old), (omega arith, tt)); short = lit< tt }) (λ t. t) refl (one-declared t (takeId s) old) (take-sound start 9 P s h) in
           let c = u .constants in
           record {
@@ -216,7 +212,7 @@ module _ (start : ℕ) where
     unfolding constantOf
     constant-found (Value l) g rt rc =
         let q = literal-found start 9 find finds l g s [] tt (lit< tt) h in
-        record { sound = q .sound; grew = q .grew; declared = q .declared; kind = Rattle.definition.proofs.Finding.small-literal-kind l }
+        record { sound = q .sound; grew = q .grew; declared = q .declared; kind = small-literal-kind l }
     constant-found (Alias c) g rt rc = let v = value-good c (rc c (List·Memᴰ·head refl)) in record { sound = h; grew = grew-refl s; declared = v .0; kind = v .1 }
     constant-found (ZeroValue t) g rt rc =
         let q = zero-found t s [] tt (r .types .all t (rt t (List·Memᴰ·head refl))) h in
@@ -280,13 +276,13 @@ module _ (start : ℕ) where
       let d = typeStruct w (f .id ∷ []) in
       let u = declare d (f .state) in
       let up : w ≤ f .state .last = omega (arith, kb .grew .up, r .grew .up) in
-      let hu : Sound start P u = other-sound start w P (f .state) d refl (record { small = lit< tt; known = refl; typed = refl; declares = refl; operands = refl })
+      let hu : Sound start P u = other-sound start w P (f .state) d refl (taken tt)
       (record { words = λ B p q. (omega arith, (omega (arith, low start Q (f .state) (f .id) (r .sound) (r .declared)), tt)); short = lit< tt }) (λ t. t) refl (one-declared (f .id) (f .state) (r .declared)) (r .sound) in
       let p = suc (u .last) in
       let d₂ = typePointer p class w in
       let old : 1 ≤ times w (u .declarations) = just-declared w d (f .state) refl in
       record {
-        sound = other-sound start p P (takeId u) d₂ refl (record { small = lit< tt; known = refl; typed = refl; declares = refl; operands = refl })
+        sound = other-sound start p P (takeId u) d₂ refl (taken tt)
             (record { words = λ B x q. (omega arith, (omega arith, (omega arith, tt))); short = lit< tt }) (λ t. t) refl (one-declared w (takeId u) old) (take-sound start 9 P u hu);
         grew = grew-trans (take-grew s) (grew-trans (annotate-grew (block w) (takeId s)) (grew-trans (kb .grew) (grew-trans (r .grew) (grew-trans (declare-grew d (f .state)) (grew-trans (take-grew u) (declare-grew d₂ (takeId u)))))));
         declared = just-declared p d₂ (takeId u) refl;
@@ -342,10 +338,10 @@ module _ (start : ℕ) where
   variable-sound : (id p class : ℕ) (i : Option ℕ) (s : State) → class ≤ W → id ≤ s .last → 1 ≤ times p (s .declarations) → AllDeclared (optional i) s → Sound start ((9, id) ∷ []) s → Sound start [] (declare (variable p id class i) s)
   unfolding uses needs
   variable-sound id p class none s cw lid old v h =
-      other-sound start id [] s (variable p id class none) refl (record { small = lit< tt; known = refl; typed = refl; declares = refl; operands = refl })
+      other-sound start id [] s (variable p id class none) refl (taken tt)
       (record { words = λ B x q. (omega (arith, low start ((9, id) ∷ []) s p h old), (omega arith, (omega arith, tt))); short = lit< tt }) (λ t. t) refl (one-declared p s old) h
   variable-sound id p class (some i) s cw lid old v h =
-      other-sound start id [] s (variable p id class (some i)) refl (record { small = lit< tt; known = refl; typed = refl; declares = refl; operands = refl })
+      other-sound start id [] s (variable p id class (some i)) refl (taken tt)
       (record { words = λ B x q. (omega (arith, low start ((9, id) ∷ []) s p h old), (omega arith, (omega arith, (omega (arith, low start ((9, id) ∷ []) s i h (v i (List·Memᴰ·head refl))), tt)))); short = lit< tt }) (λ t. t) refl
       (more-declared p (i ∷ []) s old v) h
 
@@ -400,6 +396,6 @@ module _ (start : ℕ) where
       let v = constantOf ts e s in
       let r = read-more (q .grew) rd in (
         value-entered (v .value) (v .state) (q .declared) (q .kind) (q .sound),
-        record { types = record { all = r .types .all; only = r .types .only }; constants = omega (arith, lib.ListN.length-append (v .state .constants .values) (v .value ∷ []), r .constants) },
+        record { types = record { all = r .types .all; only = r .types .only }; constants = omega (arith, length-append (v .state .constants .values) (v .value ∷ []), r .constants) },
         q .grew .more,
       )

@@ -1,10 +1,10 @@
 -- P1 to P12 of "From sheet to words", with one row of "Seen in class", as rows of one table, proved together by one computed test.
 use Prim.Native.Nat.{ℕ}
 use mathlib.Core.Bool.{Bool, true, false, _&&_, Bool·beq}
-use mathlib.Core.List.{List, [], _∷_, List·Memᴰ}
+use mathlib.Core.List.{List, [], _∷_}
 use native.Mathlib.Decide.{ℕ-discrete}
 use lib.Dec.{T, eqb}
-use lib.ListN.{replicate, length}
+use lib.ListN.{replicate}
 use Rattle.definition.specs.Choice.{every}
 use Rattle.definition.specs.Bytes.{u16At, u32At, u64At, nameAt, nameEnd}
 use Rattle.definition.specs.Finding.{formatCapabilities, dimCapabilities, literalWith, findAt, find, compositeOf, nullOf}
@@ -19,7 +19,7 @@ use Rattle.definition.specs.Tests.{headerTest, add, addRecord, noRecord,
 use Rattle.definition.specs.Unfit.{membersFit, constantFits, globalFits, fitnessTest}
 use Rattle.definition.specs.Utf8.{octets, utf8, noZero}
 use Rattle.definition.specs.Zeroable.{zeroables, zeroable}
-use Rattle.definition.specs.Operations.{Declared, Answer, Written, Wrapping, Wraps}
+use Rattle.definition.specs.Operations.{Answer, Written, Wrapping, Wraps}
 
 -- a sheet, and what an operation answers
 pub data Row : Type 0 where

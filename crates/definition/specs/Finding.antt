@@ -1,6 +1,7 @@
 -- "Finding a type's id may declare it, and declaring it may find another's." The fuel is the shape's nesting rank.
+use native.Mathlib.Decide.{ℕ-discrete}
 use Prim.Native.Nat.{ℕ, suc, zero}
-use mathlib.Core.Bool.{Bool, true, false, _&&_}
+use mathlib.Core.Bool.{_&&_}
 use mathlib.Core.List.{List, [], _∷_, _++_}
 use mathlib.Core.Option.{Option, some, none}
 use lib.Dec.{eqb}
@@ -145,4 +146,4 @@ orNewNull none t s =
     got id (withConstants (enterNull t id (u .constants)) u)
 
 unfoldable pub nullOf : ℕ → State → Got
-nullOf t s = orNewNull (lookup native.Mathlib.Decide.ℕ-discrete t (s .constants .nulls)) t s
+nullOf t s = orNewNull (lookup ℕ-discrete t (s .constants .nulls)) t s

@@ -1,8 +1,9 @@
 -- The operations: Check, Declare and Wrapped, each a function of the sheet (and of the word buffer, or the index).
-use Prim.Native.Nat.{ℕ, zero, suc}
-use mathlib.Core.Bool.{Bool, true, false}
-use mathlib.Core.List.{List, [], _∷_, _++_}
-use lib.Dec.{eqb, leb, ltb}
+use mathlib.Core.Option.{none}
+use Prim.Native.Nat.{ℕ}
+use mathlib.Core.Bool.{Bool}
+use mathlib.Core.List.{List}
+use lib.Dec.{leb, ltb}
 use lib.ListN.{length, drop, getD}
 use Rattle.definition.specs.Choice.{pick, first}
 use Rattle.definition.specs.Instructions.{put}
@@ -91,7 +92,7 @@ pub data Wrapping : Type 0 where
   Refused : ℕ → Wrapping
 
 abbrev pub noGlobal : Global
-noGlobal = record { name = mathlib.Core.Option.none; type = 0; space = 0; access = 0; bound = 0; group = 0; binding = 0; init = mathlib.Core.Option.none }
+noGlobal = record { name = none; type = 0; space = 0; access = 0; bound = 0; group = 0; binding = 0; init = none }
 
 abbrev pub wrappingOf : ℕ → Judged Progress → Wrapping
 wrappingOf k (refused n) = Wrapping.Refused n

@@ -1,6 +1,6 @@
 -- Reading a module by the SPIR-V Specification alone: the words of the header, the word count and opcode of each instruction,
 -- and for each opcode what its operands are. It knows nothing of sheets or rules. What is malformed has no reading.
-use Prim.Native.Nat.{ℕ, suc, zero, _+_, _*_, _-_, _/_, _%_}
+use Prim.Native.Nat.{ℕ, suc, zero, _-_, _/_, _%_}
 use mathlib.Core.Bool.{Bool, true, false, _&&_, not}
 use mathlib.Core.List.{List, [], _∷_, _++_}
 use mathlib.Core.Option.{Option, some, none}

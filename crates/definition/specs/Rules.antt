@@ -1,14 +1,14 @@
 -- How the entries of a sheet change the state ("Rules"): types, constants and globals, in the sheet's order.
-use Prim.Native.Nat.{ℕ, suc, zero, _+_, _*_, _/_, _%_}
-use mathlib.Core.Bool.{Bool, true, false, _&&_, _||_}
-use mathlib.Core.List.{List, [], _∷_, _++_, map}
+use Prim.Native.Nat.{ℕ, suc, zero, _*_, _/_, _%_}
+use mathlib.Core.Bool.{Bool, true, false, _&&_, _||_, not}
+use mathlib.Core.List.{List, [], _∷_, _++_}
 use mathlib.Core.Option.{Option, some, none}
-use lib.Dec.{eqb, leb}
+use lib.Dec.{eqb}
 use lib.ListN.{length, getD, replicate}
 use Rattle.definition.specs.Choice.{pick, orElse}
 use Rattle.definition.specs.Bytes.{Name}
 use Rattle.definition.specs.Numbers.{DecorationBlock, DecorationColMajor, DecorationArrayStride, DecorationMatrixStride, DecorationNonWritable, DecorationNonReadable, DecorationBinding, DecorationDescriptorSet, DecorationOffset}
-use Rattle.definition.specs.Literals.{Literal, u32}
+use Rattle.definition.specs.Literals.{u32}
 use Rattle.definition.specs.Instructions.{Instruction, name, memberName, decorate, memberDecorate, typeArray, typeRuntimeArray, typeStruct, typePointer, variable}
 use Rattle.definition.specs.Sheet.{Options, Member, TypeInner, TypeEntry, Expression, Global, Remap, Entry}
 use Rattle.definition.specs.Sheet.{Scalar, Vector, Matrix, Atomic, Pointer, ValuePointer, Array, Struct, Image, Sampler, AccelerationStructure, RayQuery, BindingArray}
@@ -16,7 +16,7 @@ use Rattle.definition.specs.Sheet.{Value, Alias, ZeroValue, Compose, Spl
 use Rattle.definition.specs.Tests.{Seen, storage}
 use Rattle.definition.specs.Shapes.{Kind, Key, shapeOf, storageClass, kindOf}
 use Rattle.definition.specs.Shapes.{Shape, bool, scalar, vector, pointer, bindingPointer, entry, shape}
-use Rattle.definition.specs.State.{Valued, Constants, State, Got, got, takeId, enter, withConstants, annotate, label, declare, idOf}
+use Rattle.definition.specs.State.{Valued, State, Got, got, takeId, enter, withConstants, annotate, label, declare, idOf}
 use Rattle.definition.specs.Finding.{literalKind, find, literal, compositeOf, nullOf}
 
 -- ---- the types read so far
@@ -271,7 +271,7 @@ wrapsType ts (Atomic k w) = true
 wrapsType ts (Pointer b s a) = true
 wrapsType ts (ValuePointer n k w s a) = true
 wrapsType ts (Array b n d) = true
-wrapsType ts (Struct n ms) = mathlib.Core.Bool.not (endsDynamic ts ms)
+wrapsType ts (Struct n ms) = not (endsDynamic ts ms)
 wrapsType ts (Image d a c x y) = true
 wrapsType ts (Sampler c) = true
 wrapsType ts AccelerationStructure = true

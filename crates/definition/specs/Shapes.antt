@@ -3,12 +3,10 @@ use Prim.Native.Nat.{ℕ, _*_}
 use mathlib.Core.Bool.{Bool}
 use mathlib.Core.List.{List, [], _∷_}
 use mathlib.Core.Option.{Option, some, none}
-use mathlib.Core.Path.{_≡_, refl}
 use native.Mathlib.Decide.{ℕ-discrete}
-use native.Mathlib.Omega.{arith}
-use lib.Dec.{eqb, leb}
+use lib.Dec.{eqb}
 use lib.ListN.{getD}
-use Rattle.definition.specs.Choice.{pick, among}
+use Rattle.definition.specs.Choice.{pick}
 use Rattle.definition.specs.Numbers.{StorageClassUniformConstant, StorageClassUniform, StorageClassWorkgroup, StorageClassPrivate, StorageClassFunction, StorageClassPushConstant, StorageClassStorageBuffer}
 use Rattle.definition.specs.Numbers.{ImageFormatUnknown, ImageFormatR8, ImageFormatR8Snorm, ImageFormatR8ui, ImageFormatR8i, ImageFormatR16ui, ImageFormatR16i, ImageFormatR16f, ImageFormatRg8, ImageFormatRg8Snorm, ImageFormatRg8ui, ImageFormatRg8i, ImageFormatR32ui, ImageFormatR32i, ImageFormatR32f, ImageFormatRg16ui, ImageFormatRg16i, ImageFormatRg16f, ImageFormatRgba8, ImageFormatRgba8Snorm, ImageFormatRgba8ui, ImageFormatRgba8i, ImageFormatRgb10a2ui, ImageFormatRgb10A2, ImageFormatR11fG11fB10f, ImageFormatRg32ui, ImageFormatRg32i, ImageFormatRg32f, ImageFormatRgba16ui, ImageFormatRgba16i, ImageFormatRgba16f, ImageFormatRgba32ui, ImageFormatRgba32i, ImageFormatRgba32f, ImageFormatR16, ImageFormatR16Snorm, ImageFormatRg16, ImageFormatRg16Snorm, ImageFormatRgba16, ImageFormatRgba16Snorm}
 use Rattle.definition.specs.Numbers.{Dim1D, Dim2D, Dim3D, DimCube}

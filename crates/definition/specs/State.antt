@@ -1,13 +1,12 @@
 -- What the rules work on: the ids taken, the tables, and the module's sections. It is only added to.
 use Prim.Native.Nat.{ℕ, suc, zero, _+_}
-use mathlib.Core.Bool.{Bool, true, false}
 use mathlib.Core.List.{List, [], _∷_, _++_}
 use mathlib.Core.Option.{Option, some, none}
 use mathlib.Core.Path.{_≡_, refl}
 use native.Mathlib.Decide.{ℕ-discrete}
 use native.Mathlib.Omega.{arith}
 use lib.Dec.{eqb}
-use Rattle.definition.specs.Choice.{pick, orElse}
+use Rattle.definition.specs.Choice.{pick}
 use Rattle.definition.specs.Literals.{Literal}
 use Rattle.definition.specs.Instructions.{Instruction, capability, header, allWords}
 use Rattle.definition.specs.Shapes.{Kind, Key, sameKey}

@@ -2,7 +2,7 @@
 -- refusal, or 0. Readings of open points: docs/DECISIONS.md.
 use Prim.Native.Nat.{ℕ, zero, suc, _+_}
 use mathlib.Core.Bool.{Bool, true, false, _&&_, _||_, not}
-use mathlib.Core.List.{List, [], _∷_, _++_, map}
+use mathlib.Core.List.{List, [], _∷_, _++_}
 use mathlib.Core.Option.{Option, some, none}
 use lib.Dec.{eqb, leb, ltb}
 use lib.ListN.{length, drop}

@@ -2,12 +2,12 @@
 -- and it is not available".
 use Prim.Native.Nat.{ℕ}
 use mathlib.Core.Bool.{Bool, true, false, _&&_, _||_, not}
-use mathlib.Core.List.{List, [], _∷_, map}
+use mathlib.Core.List.{List, [], _∷_}
 use mathlib.Core.Option.{Option, some, none}
 use lib.Dec.{eqb, ltb}
 use lib.ListN.{length}
 use Rattle.definition.specs.Choice.{pick, unless, among, every, orElse}
-use Rattle.definition.specs.Sheet.{Member, TypeInner, TypeEntry, Expression, Global, Entry}
+use Rattle.definition.specs.Sheet.{TypeInner, TypeEntry, Expression, Global, Entry}
 use Rattle.definition.specs.Sheet.{Scalar, Vector, Matrix, Atomic, Pointer, ValuePointer, Array, Struct, Image, Sampler, AccelerationStructure, RayQuery, BindingArray}
 use Rattle.definition.specs.Sheet.{Value, Alias, ZeroValue, Compose, Splat, available, remap, type, constant, global}
 use Rattle.definition.specs.Tests.{Seen, memberTypes, storage, present}

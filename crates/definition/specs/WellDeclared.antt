@@ -1,12 +1,12 @@
 -- Demand 3, of what a reader finds in the words ("Demand 3's words" and the mission's third demand), one field a clause.
-use Prim.Native.Nat.{ℕ, suc, zero, _+_, _*_, _<_, _≤_, min}
-use mathlib.Core.Bool.{Bool, true, false, _&&_}
+use Prim.Native.Nat.{ℕ, _+_, _<_, _≤_, min}
+use mathlib.Core.Bool.{Bool, true, false}
 use mathlib.Core.List.{List, [], _∷_, _++_, List·Memᴰ}
 use mathlib.Core.Logic.{_↔_}
 use mathlib.Core.Option.{Option, some, none}
 use mathlib.Core.Path.{_≡_}
 use lib.Dec.{eqb, T}
-use lib.ListN.{getElem?}
+use lib.ListN.{getElem?, take, drop}
 use Rattle.definition.specs.Choice.{pick, among}
 use Rattle.definition.specs.Numbers.{OpName, OpMemberName, OpCapability, OpTypeBool, OpTypeInt, OpTypeFloat, OpTypeVector, OpTypeMatrix, OpTypeImage, OpTypeSampler, OpDecorate, OpMemberDecorate, OpTypeRayQueryKHR, OpTypeAccelerationStructureKHR}
 use Rattle.definition.specs.Numbers.{CapabilityFloat64, CapabilityInt64, CapabilityInt16, CapabilityInt8, CapabilityRayQueryKHR}
@@ -14,10 +14,10 @@ use Rattle.definition.specs.Instructions.{Instruction}
 use Rattle.definition.specs.Reader.{layoutOf, idsAmong, uses, Module, readModule}
 use Rattle.definition.specs.Sheet.{TypeEntry, startOf}
 use Rattle.definition.specs.Shapes.{Shape, shapeOf, inner, opcodeOf, typeOf, entry, shape}
-use Rattle.definition.specs.State.{State, same, occurrences, idOf, moduleWords}
+use Rattle.definition.specs.State.{State, same, occurrences, idOf, boundOf, instructions, moduleWords}
 use Rattle.definition.specs.Finding.{formatCapabilities, dimCapabilities}
-use Rattle.definition.specs.Tests.{Judged, fit}
-use Rattle.definition.specs.Operations.{Progress, judged}
+use Rattle.definition.specs.Tests.{fit}
+use Rattle.definition.specs.Operations.{Progress, judged, Written, declare}
 
 -- ---- "an instruction with a result id declares it"
 
@@ -144,9 +144,15 @@ pub record EntriesDeclared (ts : List TypeEntry) (s : State) (is : List Instruct
 
 -- ---- demand 3, whole: "Whatever sheet Declare accepts, whoever reads its words by that specification finds .."
 
-pub record Found (s : List ℕ) (p : Progress) : Type 0 where
+-- the header and the four sections, in order
+abbrev pub writtenOf : State → Module
+writtenOf s = record { version = 0x00010300; generator = 28; bound = boundOf s; instructions = instructions s }
+
+-- what is found in words, of a sheet that came to a progress
+pub record Found (s : List ℕ) (p : Progress) (ws : List ℕ) : Type 0 where
   pub found : Module
-  pub reads : readModule (moduleWords (p .state)) ≡ some found
+  pub reads : readModule ws ≡ some found
+  pub written : found ≡ writtenOf (p .state)
   pub well : WellDeclared (startOf s) (found .bound) (found .instructions)
   pub entries : EntriesDeclared (p .seen .types) (p .state) (found .instructions)
 
@@ -154,5 +160,17 @@ pub record Found (s : List ℕ) (p : Progress) : Type 0 where
 abbrev pub IsBytes : List ℕ → Type 0
 IsBytes s = (b : ℕ) → List·Memᴰ b s → b < 256
 
+-- of every sheet that Check fits
 abbrev pub Demand3 : Type 0
-Demand3 = (s : List ℕ) → IsBytes s → (p : Progress) → judged s ≡ fit p → Found s p
+Demand3 = (s : List ℕ) → IsBytes s → (p : Progress) → judged s ≡ fit p → Found s p (moduleWords (p .state))
+
+-- of the words that Declare leaves in a buffer: as many as it says, with the bound that it says, and the rest of the buffer unchanged
+pub record Accepted (s b : List ℕ) (n bound : ℕ) : Type 0 where
+  pub progress : Progress
+  pub fits : judged s ≡ fit progress
+  pub found : Found s progress (take n (declare s b .buffer))
+  pub bound-is : bound ≡ found .found .bound
+  pub rest : drop n (declare s b .buffer) ≡ drop n b
+
+abbrev pub Demand3OfDeclare : Type 0
+Demand3OfDeclare = (s b : List ℕ) → IsBytes s → (n bound : ℕ) → declare s b .answer ≡ Written n bound → Accepted s b n bound
