@@ -317,7 +317,8 @@ demand-3 s bytes p e =
       reads = module-read (p .state) (omega (arith, f .low)) (all-readable start (p .state) h (small-listed (p .state .capabilities) (p .state .declarations) (h .caps)));
       written = refl;
       well = well-declared start (p .state) h;
-      entries = entries-declared start (p .state) h (p .seen .types) (f .good .told) }
+      entries = entries-declared start (p .state) h (p .seen .types) (f .good .told);
+    }
 
 -- The same of the words that Declare leaves in a buffer: where it answers Written, the module stands at the buffer's front.
 pub demand-3-of-declare : Demand3OfDeclare
@@ -337,8 +338,10 @@ demand-3-of-declare s b bytes n bound e = outer (judged s) refl e
           fits = f;
           found = record { found = d .found; reads = rw front (d .reads); written = d .written; well = d .well; entries = d .entries };
           bound-is = sym q ∙ sym (ap (λ (m : Module). m .bound) (d .written));
-          rest = rw (f, l) (drop-at ws (drop (length ws) b) n m ∙ ap (λ (k : ℕ). drop k b) m) }
+          rest = rw (f, l) (drop-at ws (drop (length ws) b) n m ∙ ap (λ (k : ℕ). drop k b) m);
+        }
     fitting p f false l w = let z : _≡_ {A = ℕ} 0 1 = cc in absurd (omega arith)
+
     outer : (j : Judged Progress) → judged s ≡ j → declaredOf b j .answer ≡ Written n bound → Accepted s b n bound
     outer (refused k) f w = let z : _≡_ {A = ℕ} 0 1 = cc in absurd (omega arith)
     outer (fit p) f w = fitting p f (leb (length (moduleWords (p .state))) (length b)) refl w

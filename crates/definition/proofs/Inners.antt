@@ -1,6 +1,6 @@
 -- What a type's fields give: numbers that fit a word, and a shape that names only entries that the type names.
 use Prim.Native.Nat.{ℕ, _*_, _≤_}
-use mathlib.Core.Path.{_≡_, subst}
+use mathlib.Core.Path.{_≡_, subst, refl}
 use mathlib.Core.List.{List, [], _∷_, List·Memᴰ}
 use mathlib.Core.Option.{Option, some, none}
 use mathlib.Core.Bool.{Bool, true, false, _&&_}
@@ -67,6 +67,11 @@ smallFormat f = leb (f .number) 255 && smallKind (f .kind)
 all-small : T (every smallFormat formats)
 unfolding formats smallFormat smallKind
 all-small = tt
+
+-- "format 0 to 39": test 10 lets in the formats that the table has, and no other
+pub forty-formats : length formats ≡ 40
+unfolding formats
+forty-formats = refl
 
 small-kind : (k : Kind) → T (smallKind k) → SmallKind k
 unfolding smallKind

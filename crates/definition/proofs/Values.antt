@@ -13,10 +13,10 @@ use Rattle.definition.specs.Choice.{orElse}
 use Rattle.definition.specs.Numbers.{DecorationBlock, DecorationNonWritable, DecorationNonReadable, DecorationBinding, DecorationDescriptorSet}
 use Rattle.definition.specs.Instructions.{optional, name, decorate, typeStruct, typePointer, constantComposite, constantNull, variable}
 use Rattle.definition.specs.Reader.{uses}
-use Rattle.definition.specs.Sheet.{Options, Member, TypeInner, TypeEntry, Expression, Global, Remap}
+use Rattle.definition.specs.Sheet.{Options, Member, TypeInner, TypeEntry, Expression, Global, Remap, storageSpace}
 use Rattle.definition.specs.Sheet.{Scalar, Vector, Matrix, Atomic, Pointer, ValuePointer, Array, Struct, Image, Sampler, AccelerationStructure, RayQuery, BindingArray}
 use Rattle.definition.specs.Sheet.{Value, Alias, ZeroValue, Compose, Splat}
-use Rattle.definition.specs.Tests.{Seen, storage, innerTypes, expressionTypes, expressionConstants, initList}
+use Rattle.definition.specs.Tests.{Seen, innerTypes, expressionTypes, expressionConstants, initList}
 use Rattle.definition.specs.Shapes.{Kind, Key, storageClass, rank, bool, vector, pointer, bindingPointer, entry, shape}
 use Rattle.definition.specs.State.{Valued, Composite, composite, sameComposite, State, lookup, takeId, annotate, declare}
 use Rattle.definition.specs.Finding.{find, enterComposite, enterNull, compositeOf, orNewNull, nullOf}
@@ -368,8 +368,8 @@ module _ (start : ℕ) where
       let p = pointerOf (wayOf n g) ts g s₃ in
       let q = pointer-found (wayOf n g) ts g s₃ P gs gw (lit< tt, tt) (lit< tt, tt) (lit< tt, tt) e₃ (k₃ .sound) in
       let b = bindingBase (innerAt ts (g .type)) in
-      let s₄ = blockBase (eqb (g .space) storage) b (p .state) in
-      let k₄ = block-kept (eqb (g .space) storage) b (p .state) P (lit< tt, tt) (base-entered ts (p .state) rf (read-more (q .grew) r₃ .types) (g .type) b base) (q .sound) in
+      let s₄ = blockBase (eqb (g .space) storageSpace) b (p .state) in
+      let k₄ = block-kept (eqb (g .space) storageSpace) b (p .state) P (lit< tt, tt) (base-entered ts (p .state) rf (read-more (q .grew) r₃ .types) (g .type) b base) (q .sound) in
       let w₄ = grew-trans w (grew-trans (q .grew) (k₄ .grew)) in
       let r₄ = read-more w₄ rd in
       let z = initFor (g .init) (getsNull o g) (g .type) s₄ in

@@ -135,8 +135,14 @@ variable type id class init = valueOp OpVariable type id (class ∷ optional ini
 
 -- ---- "Header: 0x07230203, 0x00010300, 28, bound (last id plus 1), 0."
 
+abbrev pub version : ℕ
+version = 0x00010300
+
+abbrev pub generator : ℕ
+generator = 28
+
 abbrev pub header : ℕ → List ℕ
-header bound = MagicNumber ∷ 0x00010300 ∷ 28 ∷ bound ∷ 0 ∷ []
+header bound = MagicNumber ∷ version ∷ generator ∷ bound ∷ 0 ∷ []
 
 -- ---- "Each section is written into what is left of the word buffer."
 

@@ -6,7 +6,7 @@ use mathlib.Core.List.{List}
 use lib.Dec.{leb, ltb}
 use lib.ListN.{length, drop, getD}
 use Rattle.definition.specs.Choice.{pick, first}
-use Rattle.definition.specs.Instructions.{put}
+use Rattle.definition.specs.Instructions.{put, fits}
 use Rattle.definition.specs.Sheet.{Record, Global, entryOf, startOf, flagsOf, optionsOf, headerLength, Options}
 use Rattle.definition.specs.Tests.{Seen, nothing, Judged, refused, fit, judge, headerTest, readingTest, addRecord, records}
 use Rattle.definition.specs.State.{State, empty, boundOf, moduleWords}
@@ -74,7 +74,7 @@ unchanged n b = record { answer = Answer.Refused n; buffer = b }
 
 abbrev pub writeModule : List ℕ → ℕ → List ℕ → Declared
 writeModule ws bound b =
-    pick (leb (length ws) (length b))
+    pick (fits ws b)
     (record { answer = Written (length ws) bound; buffer = put ws b })
     (unchanged 16 b)
 

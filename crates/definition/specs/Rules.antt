@@ -5,15 +5,15 @@ use mathlib.Core.List.{List, [], _∷_, _++_}
 use mathlib.Core.Option.{Option, some, none}
 use lib.Dec.{eqb}
 use lib.ListN.{length, getD, replicate}
-use Rattle.definition.specs.Choice.{pick, orElse}
+use Rattle.definition.specs.Choice.{pick, orElse, among}
 use Rattle.definition.specs.Bytes.{Name}
 use Rattle.definition.specs.Numbers.{DecorationBlock, DecorationColMajor, DecorationArrayStride, DecorationMatrixStride, DecorationNonWritable, DecorationNonReadable, DecorationBinding, DecorationDescriptorSet, DecorationOffset}
 use Rattle.definition.specs.Literals.{u32}
 use Rattle.definition.specs.Instructions.{Instruction, name, memberName, decorate, memberDecorate, typeArray, typeRuntimeArray, typeStruct, typePointer, variable}
-use Rattle.definition.specs.Sheet.{Options, Member, TypeInner, TypeEntry, Expression, Global, Remap, Entry}
+use Rattle.definition.specs.Sheet.{Options, Member, TypeInner, TypeEntry, Expression, Global, Remap, Entry, privateSpace, workGroupSpace, uniformSpace, storageSpace, pushConstantSpace}
 use Rattle.definition.specs.Sheet.{Scalar, Vector, Matrix, Atomic, Pointer, ValuePointer, Array, Struct, Image, Sampler, AccelerationStructure, RayQuery, BindingArray}
 use Rattle.definition.specs.Sheet.{Value, Alias, ZeroValue, Compose, Splat, available, remap, type, constant, global}
-use Rattle.definition.specs.Tests.{Seen, storage}
+use Rattle.definition.specs.Tests.{Seen}
 use Rattle.definition.specs.Shapes.{Kind, Key, shapeOf, storageClass, kindOf}
 use Rattle.definition.specs.Shapes.{Shape, bool, scalar, vector, pointer, bindingPointer, entry, shape}
 use Rattle.definition.specs.State.{Valued, State, Got, got, takeId, enter, withConstants, annotate, label, declare, idOf}
@@ -239,7 +239,7 @@ imageAccess RayQuery = none
 imageAccess (BindingArray b n) = none
 
 abbrev pub accessOf : List TypeEntry → Global → Option ℕ
-accessOf ts g = pick (eqb (g .space) storage) (some (g .access)) (imageAccess (innerAt ts (g .type)))
+accessOf ts g = pick (eqb (g .space) storageSpace) (some (g .access)) (imageAccess (innerAt ts (g .type)))
 
 -- bit 0 load, bit 1 store
 abbrev pub decorateAccess : Option ℕ → ℕ → State → State
@@ -280,7 +280,7 @@ wrapsType ts (BindingArray b n) = false
 
 -- .. of a Uniform, Storage or PushConstant global
 unfoldable pub needsWrapper : List TypeEntry → Global → Bool
-needsWrapper ts g = (eqb (g .space) 3 || (eqb (g .space) storage || eqb (g .space) 6)) && wrapsType ts (innerAt ts (g .type))
+needsWrapper ts g = among (g .space) (uniformSpace ∷ storageSpace ∷ pushConstantSpace ∷ []) && wrapsType ts (innerAt ts (g .type))
 
 -- the base of a BindingArray
 abbrev pub bindingBase : TypeInner → Option ℕ
@@ -342,7 +342,7 @@ blockBase true (some b) s = let g = find (entry b) s in annotate (block (g .id))
 
 -- "A Private global without init, or a WorkGroup one under flag bit 1, gets a null.", "a global's null comes after its pointer"
 abbrev pub getsNull : Options → Global → Bool
-getsNull o g = eqb (g .space) 1 || (eqb (g .space) 2 && o .zeroing)
+getsNull o g = eqb (g .space) privateSpace || (eqb (g .space) workGroupSpace && o .zeroing)
 
 pub record GotInit : Type 0 where
   pub init : Option ℕ
@@ -359,7 +359,7 @@ declareGlobal o n g s =
     let ts = n .types in
     let a = decorateBinding (isBound g) g id (decorateAccess (accessOf ts g) id (labelIf (o .debug) (name id) (g .name) (takeId s))) in
     let p = pointerOf (wayOf n g) ts g a in
-    let b = blockBase (eqb (g .space) storage) (bindingBase (innerAt ts (g .type))) (p .state) in
+    let b = blockBase (eqb (g .space) storageSpace) (bindingBase (innerAt ts (g .type))) (p .state) in
     let z = initFor (g .init) (getsNull o g) (g .type) b in
     declare (variable (p .id) id (storageClass (g .space)) (z .init)) (z .state)
 

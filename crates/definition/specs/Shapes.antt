@@ -12,18 +12,18 @@ use Rattle.definition.specs.Numbers.{ImageFormatUnknown, ImageFormatR8, 
 use Rattle.definition.specs.Numbers.{Dim1D, Dim2D, Dim3D, DimCube}
 use Rattle.definition.specs.Numbers.{OpTypeBool, OpTypeInt, OpTypeFloat, OpTypeVector, OpTypeMatrix, OpTypeImage, OpTypeSampler, OpTypeArray, OpTypePointer, OpTypeRayQueryKHR, OpTypeAccelerationStructureKHR}
 use Rattle.definition.specs.Instructions.{Instruction, typeOp}
-use Rattle.definition.specs.Sheet.{TypeInner, Scalar, Vector, Matrix, Atomic, Pointer, ValuePointer, Array, Struct, Image, Sampler, AccelerationStructure, RayQuery, BindingArray}
+use Rattle.definition.specs.Sheet.{TypeInner, Scalar, Vector, Matrix, Atomic, Pointer, ValuePointer, Array, Struct, Image, Sampler, AccelerationStructure, RayQuery, BindingArray, functionSpace, privateSpace, workGroupSpace, uniformSpace, storageSpace, handleSpace}
 
 -- ---- "A space's storage class is that of `map_storage_class`."
 
 abbrev pub storageClass : ℕ → ℕ
 storageClass s =
-    pick (eqb s 0) StorageClassFunction
-    (pick (eqb s 1) StorageClassPrivate
-    (pick (eqb s 2) StorageClassWorkgroup
-    (pick (eqb s 3) StorageClassUniform
-    (pick (eqb s 4) StorageClassStorageBuffer
-    (pick (eqb s 5) StorageClassUniformConstant
+    pick (eqb s functionSpace) StorageClassFunction
+    (pick (eqb s privateSpace) StorageClassPrivate
+    (pick (eqb s workGroupSpace) StorageClassWorkgroup
+    (pick (eqb s uniformSpace) StorageClassUniform
+    (pick (eqb s storageSpace) StorageClassStorageBuffer
+    (pick (eqb s handleSpace) StorageClassUniformConstant
     StorageClassPushConstant)))))
 
 -- ---- scalars: kind and width in bytes; a Bool has one width, so it carries none
@@ -81,10 +81,10 @@ pub data Count : Type 0 where
   many : ℕ → Count
   deriving Discrete as Count-discrete
 
--- "Scalars and atomics are one shape (kind, width); vectors add size; matrices are columns, rows and width; an image's shape
--- is every OpTypeImage operand; samplers are one shape, as are acceleration structures and ray queries. Pointers share by base
--- index and storage class, value pointers by size, kind, width and class; a shared pointer shape (base, size, space, access) to
--- a shared array shape (base, size)."
+-- "Scalars and atomics are one shape (kind, width); vectors add size; matrices are columns, rows and width; an image's shape is
+-- every OpTypeImage operand, its sampled type a scalar of width 4; samplers are one shape, as are acceleration structures and ray
+-- queries." "Pointers share by base index and storage class, value pointers by size, kind, width and class; aggregate entries
+-- never share." ".. a shared pointer shape (base, size, space, access) to a shared array shape (base, size)"
 pub data Shape : Type 0 where
   scalar : Kind → Shape
   vector : ℕ → Kind → Shape

@@ -53,6 +53,29 @@ tagRank t =
     (pick (within 64 68 t) 4
     (pick (eqb t 96) 5 0))))
 
+-- ---- "Space: 0 Function, 1 Private, 2 WorkGroup, 3 Uniform, 4 Storage, 5 Handle, 6 PushConstant"
+
+abbrev pub functionSpace : ℕ
+functionSpace = 0
+
+abbrev pub privateSpace : ℕ
+privateSpace = 1
+
+abbrev pub workGroupSpace : ℕ
+workGroupSpace = 2
+
+abbrev pub uniformSpace : ℕ
+uniformSpace = 3
+
+abbrev pub storageSpace : ℕ
+storageSpace = 4
+
+abbrev pub handleSpace : ℕ
+handleSpace = 5
+
+abbrev pub pushConstantSpace : ℕ
+pushConstantSpace = 6
+
 -- ---- types (tags 16 to 28), named as the paper names them, the fields in its order
 
 pub record Member : Type 0 where
@@ -189,7 +212,8 @@ constantFields t b =
 abbrev pub initOf : ℕ → Option ℕ
 initOf i = pick (eqb i 65535) none (some i)
 
--- "name, type, space, access, bound 0 or 1, group, binding (32 bits each, 0 if unbound), init": n is where the name ends
+-- "name, type, space, access, bound 0 or 1, group, binding (32 bits each, 0 if unbound), 16-bit init (65,535 none)": n is
+-- where the name ends
 unfoldable pub globalFields : List ℕ → ℕ → Fields Global
 globalFields b n = ending (n + 15) (record {
   name = nameAt b 0;

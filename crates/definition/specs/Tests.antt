@@ -10,14 +10,14 @@ use Rattle.definition.specs.Choice.{pick, unless, first, within, among, 
 use Rattle.definition.specs.Bytes.{Name, u16At}
 use Rattle.definition.specs.Utf8.{nameFits}
 use Rattle.definition.specs.Literals.{Literal, f64, f32, u32, i32, boolean}
-use Rattle.definition.specs.Sheet.{versionOf, flagsOf, Record, tagRank, formOf, Member, TypeInner, TypeEntry, Expression, Global, Remap, Entry, entryOf, recordAt, afterRecord, headerLength}
+use Rattle.definition.specs.Sheet.{versionOf, flagsOf, Record, tagRank, formOf, Member, TypeInner, TypeEntry, Expression, Global, Remap, Entry, entryOf, recordAt, afterRecord, headerLength, pushConstantSpace, storageSpace}
 use Rattle.definition.specs.Sheet.{Scalar, Vector, Matrix, Atomic, Pointer, ValuePointer, Array, Struct, Image, Sampler, AccelerationStructure, RayQuery, BindingArray}
 use Rattle.definition.specs.Sheet.{Value, Alias, ZeroValue, Compose, Splat, available, remap, type, constant, global}
 
 -- ---- limits, each named once
 
 abbrev pub sheetLeast : ℕ
-sheetLeast = 6
+sheetLeast = headerLength
 
 abbrev pub sheetMost : ℕ
 sheetMost = 16384
@@ -144,14 +144,11 @@ scalarFits k w =
 abbrev pub sizeFits : ℕ → Bool
 sizeFits n = within 2 4 n
 
--- "Space: 0 Function .. 6 PushConstant, then an access byte (bit 0 load, bit 1 store; 0 unless Storage)"
-abbrev pub storage : ℕ
-storage = 4
-
+-- "then an access byte (bit 0 load, bit 1 store; 0 unless Storage)"
 unfoldable pub spaceFits : ℕ → ℕ → Bool
-spaceFits s a = leb s 6 && leb a (pick (eqb s storage) 3 0)
+spaceFits s a = leb s pushConstantSpace && leb a (pick (eqb s storageSpace) 3 0)
 
--- "Image classes: 0 sampled (kind 0 to 2, multi 0 or 1), 1 depth (0, multi), 2 storage (format 0 to 39, access 0 to 3)"
+-- "Image classes: 0 sampled (kind 0 to 2, multi 0 or 1), 1 depth (0, multi), 2 storage (format 0 to 39 .., access 0 to 3)"
 unfoldable pub classFits : ℕ → ℕ → ℕ → Bool
 classFits c x y =
     pick (eqb c 0) (leb x 2 && leb y 1)

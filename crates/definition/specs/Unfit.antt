@@ -7,10 +7,10 @@ use mathlib.Core.Option.{Option, some, none}
 use lib.Dec.{eqb, ltb}
 use lib.ListN.{length}
 use Rattle.definition.specs.Choice.{pick, unless, among, every, orElse}
-use Rattle.definition.specs.Sheet.{TypeInner, TypeEntry, Expression, Global, Entry}
+use Rattle.definition.specs.Sheet.{TypeInner, TypeEntry, Expression, Global, Entry, functionSpace, privateSpace, workGroupSpace, uniformSpace, storageSpace, handleSpace}
 use Rattle.definition.specs.Sheet.{Scalar, Vector, Matrix, Atomic, Pointer, ValuePointer, Array, Struct, Image, Sampler, AccelerationStructure, RayQuery, BindingArray}
 use Rattle.definition.specs.Sheet.{Value, Alias, ZeroValue, Compose, Splat, available, remap, type, constant, global}
-use Rattle.definition.specs.Tests.{Seen, memberTypes, storage, present}
+use Rattle.definition.specs.Tests.{Seen, memberTypes, present}
 use Rattle.definition.specs.Zeroable.{zeroable}
 use Rattle.definition.specs.Shapes.{Key, Shape, shapeOf, kindOf, float, scalar, vector, matrix, pointer, valuePointer, image, sampler, accelerationStructure, rayQuery, bindingArray, bindingPointer, entry, shape}
 use Rattle.definition.specs.State.{State, idOf}
@@ -86,15 +86,15 @@ isPointer (BindingArray b n) = false
 
 abbrev pub initFits : State → Global → Option ℕ → Bool
 initFits s g none = true
-initFits s g (some c) = eqb (g .space) 1 && ofType s (entry (g .type)) c
+initFits s g (some c) = eqb (g .space) privateSpace && ofType s (entry (g .type)) c
 
 unfoldable pub globalFits : List TypeEntry → State → Global → Bool
 globalFits ts s g =
-    not (eqb (g .space) 0)
+    not (eqb (g .space) functionSpace)
     && (not (isPointer (innerAt ts (g .type)))
-    && ((not (isBound g) || among (g .space) (3 ∷ storage ∷ 5 ∷ []))
+    && ((not (isBound g) || among (g .space) (uniformSpace ∷ storageSpace ∷ handleSpace ∷ []))
     && (initFits s g (g .init)
-    && (not (among (g .space) (1 ∷ 2 ∷ [])) || zeroable ts (g .type)))))
+    && (not (among (g .space) (privateSpace ∷ workGroupSpace ∷ [])) || zeroable ts (g .type)))))
 
 -- "13 unfit"
 abbrev pub entryFits : Seen → State → Entry → Bool

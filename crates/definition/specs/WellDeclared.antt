@@ -10,7 +10,7 @@ use lib.ListN.{getElem?, take, drop}
 use Rattle.definition.specs.Choice.{pick, among}
 use Rattle.definition.specs.Numbers.{OpName, OpMemberName, OpCapability, OpTypeBool, OpTypeInt, OpTypeFloat, OpTypeVector, OpTypeMatrix, OpTypeImage, OpTypeSampler, OpDecorate, OpMemberDecorate, OpTypeRayQueryKHR, OpTypeAccelerationStructureKHR}
 use Rattle.definition.specs.Numbers.{CapabilityFloat64, CapabilityInt64, CapabilityInt16, CapabilityInt8, CapabilityRayQueryKHR}
-use Rattle.definition.specs.Instructions.{Instruction}
+use Rattle.definition.specs.Instructions.{Instruction, version, generator}
 use Rattle.definition.specs.Reader.{layoutOf, idsAmong, uses, Module, readModule}
 use Rattle.definition.specs.Sheet.{TypeEntry, startOf}
 use Rattle.definition.specs.Shapes.{Shape, shapeOf, inner, opcodeOf, typeOf, entry, shape}
@@ -146,7 +146,7 @@ pub record EntriesDeclared (ts : List TypeEntry) (s : State) (is : List Instruct
 
 -- the header and the four sections, in order
 abbrev pub writtenOf : State → Module
-writtenOf s = record { version = 0x00010300; generator = 28; bound = boundOf s; instructions = instructions s }
+writtenOf s = record { version = version; generator = generator; bound = boundOf s; instructions = instructions s }
 
 -- what is found in words, of a sheet that came to a progress
 pub record Found (s : List ℕ) (p : Progress) (ws : List ℕ) : Type 0 where
