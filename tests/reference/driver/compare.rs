@@ -93,20 +93,24 @@ fn asked(cases: Vec<Case>) -> Option<Vec<Asked>> {
             },
         };
         if let Expected::Refused { number: 14, record: Some(record) } = expected {
-            let behind = sheet[..end_of_record(&sheet, record)].to_vec();
-            let before = match record {
-                0 => HEADER,
-                _ => end_of_record(&sheet, record - 1),
-            };
-            let before = sheet[..before].to_vec();
-            for cut in [behind, before] {
-                let expected = ask_reference(&cut)?;
-                out.push(Asked { sheet: cut, expected });
-            }
+            out.extend(cuts(&sheet, record)?);
         }
         out.push(Asked { sheet, expected });
     }
     Some(out)
+}
+
+/// A sheet cut off behind a record and before it, with what is expected of each.
+fn cuts(sheet: &[u8], record: usize) -> Option<Vec<Asked>> {
+    let before = match record {
+        0 => HEADER,
+        _ => end_of_record(sheet, record - 1),
+    };
+    let cut = |end: usize| {
+        let sheet = sheet[..end].to_vec();
+        ask_reference(&sheet).map(|expected| Asked { sheet, expected })
+    };
+    Some(vec![cut(end_of_record(sheet, record))?, cut(before)?])
 }
 
 /// How the second reading differs from what is expected, if it does.
@@ -242,6 +246,17 @@ fn line(one: &Asked) -> String {
     format!("{} | {answer}", lines::hex(&one.sheet))
 }
 
+/// One line of the stored sample; where a capability is missing, also the two cuts
+/// that show at which record.
+fn store(one: &Asked) {
+    println!("{}", line(one));
+    if let Expected::Refused { number: 14, record: Some(record) } = one.expected {
+        for cut in cuts(&one.sheet, record).into_iter().flatten() {
+            println!("{}", line(&cut));
+        }
+    }
+}
+
 /// The stored sample, all of the comparison's domain: for each fault the shortest
 /// sheet that shows it, then sheets spread evenly over the families and over random
 /// ones, short ones and a few long ones.
@@ -264,14 +279,15 @@ pub fn print_sample() -> bool {
     shortest.sort_by_key(|one| one.sheet.len());
     for &(fault, what) in FAULTS {
         if let Some(one) = shortest.iter().find(|one| difference(one, Some(fault)).is_some()) {
-            println!("# not so: {what}\n{}", line(one));
+            println!("# not so: {what}");
+            store(one);
         }
     }
     let spread = |all: &[Asked], count: usize, lengths: std::ops::Range<usize>| {
-        let fitting: Vec<String> =
-            all.iter().map(line).filter(|l| lengths.contains(&l.len())).collect();
+        let fitting: Vec<&Asked> =
+            all.iter().filter(|one| lengths.contains(&line(one).len())).collect();
         for n in 0..count {
-            println!("{}", fitting[n * fitting.len() / count]);
+            store(fitting[n * fitting.len() / count]);
         }
     };
     println!("# from the families");
