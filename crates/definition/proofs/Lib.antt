@@ -14,5 +14,6 @@ pub mod Passing
 pub mod Records
 pub mod Reading
 pub mod Capabilities
+pub mod Same
 pub mod Demand
 pub mod Teeth

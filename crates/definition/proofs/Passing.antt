@@ -86,7 +86,7 @@ members-good b p (suc n) u t =
     let q = both-true (nameFits (nameAt b (p + 6))) (every nameFits (memberNames (membersAt b (nameEnd b (p + 6)) n))) t in
     ((u32-small b u (p + 2), name-good b (p + 6) u (q .0)), members-good b (nameEnd b (p + 6)) n u (q .1))
 
-members-count : (b : List ℕ) (p n : ℕ) → length (membersAt b p n) ≡ n
+pub members-count : (b : List ℕ) (p n : ℕ) → length (membersAt b p n) ≡ n
 unfolding membersAt
 members-count b p zero = refl
 members-count b p (suc n) = ap suc (members-count b (nameEnd b (p + 6)) n)

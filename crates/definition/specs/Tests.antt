@@ -259,7 +259,7 @@ readAlready n e = below (length (n .types)) (typesNamed e) && below (length (n .
 -- ---- 12: "a type equal to an earlier one in name and all fields, or a remap of a group and binding already remapped"
 
 -- A record that passed test 8 is its fields, one after the other, each in its one form: so two types are equal in name
--- and all fields exactly if their tags and bodies are equal.
+-- and all fields exactly if their tags and bodies are equal (proved: `test-12` in proofs/Same.antt).
 unfoldable pub sameBytes : List ℕ → List ℕ → Bool
 sameBytes [] [] = true
 sameBytes [] (y ∷ ys) = false
