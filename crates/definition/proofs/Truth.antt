@@ -57,3 +57,13 @@ first-passed (suc a) b e = absurd (omega arith)
 pub unless-passed : (t : Bool) (n later : ℕ) → unless t (suc n) later ≡ 0 → T t × (later ≡ 0)
 unless-passed true n later e = (tt, e)
 unless-passed false n later e = absurd (omega arith)
+
+-- ---- the same, of tests that are equal to true
+
+pub both : (a b : Bool) → (a && b) ≡ true → (a ≡ true) × (b ≡ true)
+both true b e = (refl, e)
+both false b e = let z : _≡_ {A = ℕ} 0 1 = cc in absurd (omega arith)
+
+pub unless-zero : (b : Bool) (n x : ℕ) → unless b (suc n) x ≡ 0 → (b ≡ true) × (x ≡ 0)
+unless-zero true n x e = (refl, e)
+unless-zero false n x e = absurd (omega arith)

@@ -2,6 +2,5 @@ pub mod Put
 pub mod Bytes
 pub mod Heads
 pub mod Sections
-pub mod Space
 pub mod Initializer
 pub mod Ids

@@ -1,4 +1,5 @@
 // Packed strings and storage classes.
+use kinds::AddressSpace;
 ghost use mathlib.Core.Path.{_≡_};
 ghost use Prim.Native.Nat.{_<_};
 ghost use lib.ListN.{getD};
@@ -6,7 +7,7 @@ ghost use Rattle.definition.specs.Instructions.{packed};
 ghost use Rattle.spirv.specs.Put.{Put};
 ghost use Rattle.spirv.specs.Bytes.{wordOf};
 ghost use Rattle.definition.specs.Shapes.{storageClass};
-ghost use Rattle.spirv.specs.Space.{spaceOf};
+ghost use Rattle.kinds.specs.Numbers.{spaceNumber};
 
 const STORAGE_CLASS_UNIFORM_CONSTANT: u32 = 0;
 
@@ -60,19 +61,8 @@ pub fn string_to_words(sink: &mut [u32], bytes: &[u8]) -> usize
     n
 }
 
-// Where a variable lives; a Storage space says how it is accessed (bit 0 load, bit 1 store).
-pub enum AddressSpace {
-    Function,
-    Private,
-    WorkGroup,
-    Uniform,
-    Storage { access: u8 },
-    Handle,
-    PushConstant,
-}
-
 pub fn map_storage_class(space: AddressSpace) -> u32
-    ensures { λ r. ⌜ r ≡ storageClass (spaceOf space) ⌝ }
+    ensures { λ r. ⌜ r ≡ storageClass (spaceNumber space) ⌝ }
 {
     match space {
         AddressSpace::Handle => STORAGE_CLASS_UNIFORM_CONSTANT,

@@ -1,0 +1,4 @@
+pub mod Types
+pub mod Constants
+pub mod Globals
+pub mod Members

@@ -1,0 +1,59 @@
+// Constants.
+use literals::Literal;
+ghost use mathlib.Core.Path.{_≡_};
+ghost use mathlib.Core.Bool.{true};
+ghost use Prim.Native.Nat.{_<_};
+ghost use lib.ListN.{length, getD};
+ghost use Rattle.definition.specs.Sheet.{literalFields};
+ghost use Rattle.definition.specs.Tests.{literalFits};
+ghost use Rattle.literals.specs.Forms.{literalOf};
+ghost use Rattle.entries.specs.Constants.{Taken, TakenFrom};
+
+// A Constant is document 01's Alias. Types and constants by their indexes.
+pub enum Expression {
+    Literal(Literal),
+    Constant(u16),
+    ZeroValue(u16),
+    Compose { ty: u16, count: u16 },
+    Splat { size: u8, value: u16 },
+}
+
+fn literal_of(b: &[u8]) -> Literal
+    ensures { λ r. ⌜ (literalFits (literalFields (now (b .entry)) .value) ≡ true → literalOf r ≡ literalFields (now (b .entry)) .value) ⌝ }
+{
+    match fields::u8_at(b, 0) {
+        0 => literals::f64_of_bits(fields::u64_at(b, 1)),
+        1 => literals::f32_of_bits(fields::u32_at(b, 1)),
+        2 => literals::u32_of_bits(fields::u32_at(b, 1)),
+        3 => literals::i32_of_bits(fields::u32_at(b, 1)),
+        _ => Literal::Bool(fields::u8_at(b, 1) == 1),
+    }
+}
+
+// Constant i.
+pub fn constant_at(s: &[u8], constants: &[u32], i: usize) -> Expression
+    requires { ⌜ i < length (now constants) ⌝ }
+    ensures { λ r. ⌜ TakenFrom (now (s .entry)) (getD (now (constants .entry)) i 0) r ⌝ }
+{
+    let rest = crate::entry_at(s, constants, i);
+    expression_of(records::tag_of(rest), records::body_of(rest))
+}
+
+// The constant of tag t and body b.
+pub fn expression_of(t: u8, b: &[u8]) -> Expression
+    ensures { λ r. ⌜ Taken t (now (b .entry)) r ⌝ }
+{
+    match t {
+        64 => Expression::Literal(literal_of(b)),
+        65 => Expression::Constant(fields::u16_at(b, 0)),
+        66 => Expression::ZeroValue(fields::u16_at(b, 0)),
+        67 => Expression::Compose {
+            ty: fields::u16_at(b, 0),
+            count: fields::u16_at(b, 2),
+        },
+        _ => Expression::Splat {
+            size: fields::u8_at(b, 0),
+            value: fields::u16_at(b, 1),
+        },
+    }
+}

@@ -1,0 +1,107 @@
+// Globals and remaps.
+use kinds::AddressSpace;
+use kinds::space_of;
+ghost use mathlib.Core.Path.{_≡_};
+ghost use mathlib.Core.Bool.{true};
+ghost use Prim.Native.Nat.{_<_};
+ghost use lib.ListN.{length, getD};
+ghost use Rattle.definition.specs.Sheet.{globalFields, remapFields, initOf};
+ghost use Rattle.definition.specs.Tests.{bindingFits};
+ghost use Rattle.records.specs.Places.{remapFrom};
+ghost use Rattle.entries.specs.Globals.{remapOf, constantOf, Bindings, Taken, TakenFrom};
+
+pub struct ResourceBinding {
+    pub group: u32,
+    pub binding: u32,
+}
+
+pub enum Binding {
+    Unbound,
+    Bound(ResourceBinding),
+}
+
+pub enum Init {
+    Missing,
+    Constant(u16),
+}
+
+pub struct GlobalVariable {
+    pub space: AddressSpace,
+    pub binding: Binding,
+    pub ty: u16,
+    pub init: Init,
+}
+
+pub struct Remap {
+    pub group: u32,
+    pub binding: u32,
+    pub size: u32,
+}
+
+fn init_of(i: u16) -> Init
+    ensures { λ r. ⌜ constantOf r ≡ initOf i ⌝ }
+{
+    if i == 65535 {
+        return Init::Missing;
+    }
+    Init::Constant(i)
+}
+
+// The binding of a global whose name ends at n.
+fn binding_of(b: &[u8], n: usize) -> Binding
+    requires { ⌜ n < 300 ⌝ }
+    ensures { λ r. ⌜ (bindingFits (globalFields (now (b .entry)) n .value) ≡ true → Bindings r (globalFields (now (b .entry)) n .value)) ⌝ }
+{
+    if fields::u8_at(b, n + 4) == 0 {
+        return Binding::Unbound;
+    }
+    Binding::Bound(ResourceBinding {
+        group: fields::u32_at(b, n + 5),
+        binding: fields::u32_at(b, n + 9),
+    })
+}
+
+// Global i.
+pub fn global_at(s: &[u8], globals: &[u32], i: usize) -> GlobalVariable
+    requires { ⌜ i < length (now globals) ⌝ }
+    ensures { λ r. ⌜ TakenFrom (now (s .entry)) (getD (now (globals .entry)) i 0) r ⌝ }
+{
+    let rest = crate::entry_at(s, globals, i);
+    global_of(records::body_of(rest))
+}
+
+// The global of body b.
+pub fn global_of(b: &[u8]) -> GlobalVariable
+    ensures { λ r. ⌜ Taken (now (b .entry)) r ⌝ }
+{
+    let n = fields::name_end(b, 0);
+    let space = space_of(fields::u8_at(b, n + 2), fields::u8_at(b, n + 3));
+    let binding = binding_of(b, n);
+    let init = init_of(fields::u16_at(b, n + 13));
+    GlobalVariable {
+        space,
+        binding,
+        ty: fields::u16_at(b, n),
+        init,
+    }
+}
+
+// Remap i.
+pub fn remap_at(s: &[u8], remaps: &[u32], i: usize) -> Remap
+    requires { ⌜ i < length (now remaps) ⌝ }
+    ensures { λ r. ⌜ remapOf r ≡ remapFrom (now (s .entry)) (getD (now (remaps .entry)) i 0) ⌝ }
+{
+    let rest = crate::entry_at(s, remaps, i);
+    remap_of(records::body_of(rest))
+}
+
+// The remap of body b.
+pub fn remap_of(b: &[u8]) -> Remap
+    ensures { λ r. ⌜ remapOf r ≡ remapFields (now (b .entry)) .value ⌝ }
+{
+    Remap {
+        group: fields::u32_at(b, 0),
+        binding: fields::u32_at(b, 4),
+        size: fields::u32_at(b, 8),
+    }
+}

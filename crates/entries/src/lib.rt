@@ -1,0 +1,20 @@
+// Entries that were read, taken from the sheet again by value and under the Rust's names. What has no fixed length stays
+// in the record's body: names, a struct's members, a Compose's parts.
+// A field outside its values, which test 10 refuses, is taken for some value that it may have; so each promise is for
+// fields that pass that test.
+pub mod constants;
+pub mod globals;
+pub mod members;
+pub mod types;
+
+ghost use mathlib.Core.Path.{_≡_};
+ghost use Prim.Native.Nat.{_<_};
+ghost use lib.ListN.{length, drop, getD};
+
+// The sheet from the i-th place on: the record of the i-th entry of a kind, whose places are these.
+pub fn entry_at<'a>(s: &'a [u8], places: &[u32], i: usize) -> &'a [u8]
+    requires { ⌜ i < length (now places) ⌝ }
+    ensures { λ r. ⌜ now r ≡ drop (getD (now (places .entry)) i 0) (now (s .entry)) ⌝ }
+{
+    records::rest_at(s, places[i] as usize)
+}

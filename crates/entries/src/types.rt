@@ -1,0 +1,218 @@
+// Types: the fields behind the name, which ends at n.
+use kinds::AddressSpace;
+use kinds::ImageClass;
+use kinds::ImageDimension;
+use kinds::ScalarKind;
+use kinds::class_of;
+use kinds::dimension_of;
+use kinds::kind_of;
+use kinds::space_of;
+ghost use Prim.Native.Nat.{_<_};
+ghost use lib.ListN.{length, getD};
+ghost use Rattle.definition.specs.Bytes.{nameEnd};
+ghost use Rattle.entries.specs.Types.{Taken, TakenFrom};
+
+// Widths in bytes; a base is an index within the types; a size of 0 is dynamic or, of a value pointer, none.
+pub enum TypeInner {
+    Scalar {
+        kind: ScalarKind,
+        width: u8,
+    },
+    Vector {
+        size: u8,
+        kind: ScalarKind,
+        width: u8,
+    },
+    Matrix {
+        columns: u8,
+        rows: u8,
+        width: u8,
+    },
+    Atomic {
+        kind: ScalarKind,
+        width: u8,
+    },
+    Pointer {
+        base: u16,
+        space: AddressSpace,
+    },
+    ValuePointer {
+        size: u8,
+        kind: ScalarKind,
+        width: u8,
+        space: AddressSpace,
+    },
+    Array {
+        base: u16,
+        size: u32,
+        stride: u32,
+    },
+    Struct {
+        span: u32,
+        count: u8,
+    },
+    Image {
+        dim: ImageDimension,
+        arrayed: bool,
+        class: ImageClass,
+    },
+    Sampler {
+        comparison: bool,
+    },
+    AccelerationStructure,
+    RayQuery,
+    BindingArray {
+        base: u16,
+        size: u32,
+    },
+}
+
+// The fields of type i.
+pub fn type_at(s: &[u8], types: &[u32], i: usize) -> TypeInner
+    requires { ⌜ i < length (now types) ⌝ }
+    ensures { λ r. ⌜ TakenFrom (now (s .entry)) (getD (now (types .entry)) i 0) r ⌝ }
+{
+    let rest = crate::entry_at(s, types, i);
+    inner_of(records::tag_of(rest), records::body_of(rest))
+}
+
+// The fields of a type of tag t and body b.
+pub fn inner_of(t: u8, b: &[u8]) -> TypeInner
+    ensures { λ r. ⌜ Taken t (now (b .entry)) (nameEnd (now (b .entry)) 0) r ⌝ }
+{
+    let n = fields::name_end(b, 0);
+    match t {
+        16 => scalar(b, n),
+        17 => vector(b, n),
+        18 => matrix(b, n),
+        19 => atomic(b, n),
+        20 => pointer(b, n),
+        21 => value_pointer(b, n),
+        22 => array(b, n),
+        23 => structure(b, n),
+        24 => image(b, n),
+        25 => sampler(b, n),
+        26 => TypeInner::AccelerationStructure,
+        27 => TypeInner::RayQuery,
+        _ => binding_array(b, n),
+    }
+}
+
+fn scalar(b: &[u8], n: usize) -> TypeInner
+    requires { ⌜ n < 300 ⌝ }
+    ensures { λ r. ⌜ Taken 16 (now (b .entry)) n r ⌝ }
+{
+    TypeInner::Scalar {
+        kind: kind_of(fields::u8_at(b, n)),
+        width: fields::u8_at(b, n + 1),
+    }
+}
+
+fn vector(b: &[u8], n: usize) -> TypeInner
+    requires { ⌜ n < 300 ⌝ }
+    ensures { λ r. ⌜ Taken 17 (now (b .entry)) n r ⌝ }
+{
+    TypeInner::Vector {
+        size: fields::u8_at(b, n),
+        kind: kind_of(fields::u8_at(b, n + 1)),
+        width: fields::u8_at(b, n + 2),
+    }
+}
+
+fn matrix(b: &[u8], n: usize) -> TypeInner
+    requires { ⌜ n < 300 ⌝ }
+    ensures { λ r. ⌜ Taken 18 (now (b .entry)) n r ⌝ }
+{
+    TypeInner::Matrix {
+        columns: fields::u8_at(b, n),
+        rows: fields::u8_at(b, n + 1),
+        width: fields::u8_at(b, n + 2),
+    }
+}
+
+fn atomic(b: &[u8], n: usize) -> TypeInner
+    requires { ⌜ n < 300 ⌝ }
+    ensures { λ r. ⌜ Taken 19 (now (b .entry)) n r ⌝ }
+{
+    TypeInner::Atomic {
+        kind: kind_of(fields::u8_at(b, n)),
+        width: fields::u8_at(b, n + 1),
+    }
+}
+
+fn pointer(b: &[u8], n: usize) -> TypeInner
+    requires { ⌜ n < 300 ⌝ }
+    ensures { λ r. ⌜ Taken 20 (now (b .entry)) n r ⌝ }
+{
+    TypeInner::Pointer {
+        base: fields::u16_at(b, n),
+        space: space_of(fields::u8_at(b, n + 2), fields::u8_at(b, n + 3)),
+    }
+}
+
+fn value_pointer(b: &[u8], n: usize) -> TypeInner
+    requires { ⌜ n < 300 ⌝ }
+    ensures { λ r. ⌜ Taken 21 (now (b .entry)) n r ⌝ }
+{
+    TypeInner::ValuePointer {
+        size: fields::u8_at(b, n),
+        kind: kind_of(fields::u8_at(b, n + 1)),
+        width: fields::u8_at(b, n + 2),
+        space: space_of(fields::u8_at(b, n + 3), fields::u8_at(b, n + 4)),
+    }
+}
+
+fn array(b: &[u8], n: usize) -> TypeInner
+    requires { ⌜ n < 300 ⌝ }
+    ensures { λ r. ⌜ Taken 22 (now (b .entry)) n r ⌝ }
+{
+    TypeInner::Array {
+        base: fields::u16_at(b, n),
+        size: fields::u32_at(b, n + 2),
+        stride: fields::u32_at(b, n + 6),
+    }
+}
+
+fn structure(b: &[u8], n: usize) -> TypeInner
+    requires { ⌜ n < 300 ⌝ }
+    ensures { λ r. ⌜ Taken 23 (now (b .entry)) n r ⌝ }
+{
+    TypeInner::Struct {
+        span: fields::u32_at(b, n),
+        count: fields::u8_at(b, n + 4),
+    }
+}
+
+fn image(b: &[u8], n: usize) -> TypeInner
+    requires { ⌜ n < 300 ⌝ }
+    ensures { λ r. ⌜ Taken 24 (now (b .entry)) n r ⌝ }
+{
+    let class = class_of(
+        fields::u8_at(b, n + 2),
+        fields::u8_at(b, n + 3),
+        fields::u8_at(b, n + 4),
+    );
+    TypeInner::Image {
+        dim: dimension_of(fields::u8_at(b, n)),
+        arrayed: fields::u8_at(b, n + 1) == 1,
+        class,
+    }
+}
+
+fn sampler(b: &[u8], n: usize) -> TypeInner
+    ensures { λ r. ⌜ Taken 25 (now (b .entry)) n r ⌝ }
+{
+    TypeInner::Sampler {
+        comparison: fields::u8_at(b, n) == 1,
+    }
+}
+
+fn binding_array(b: &[u8], n: usize) -> TypeInner
+    requires { ⌜ n < 300 ⌝ }
+    ensures { λ r. ⌜ Taken 28 (now (b .entry)) n r ⌝ }
+{
+    TypeInner::BindingArray {
+        base: fields::u16_at(b, n),
+        size: fields::u32_at(b, n + 2),
+    }
+}

@@ -1,0 +1,71 @@
+-- What the program holds of a sheet that it has read in part: places of records, and counts. What was read is found
+-- again at the places, so that nothing has to be said of how the two hang together.
+use Prim.Native.Nat.{ℕ, _≤_}
+use mathlib.Core.List.{List, map}
+use mathlib.Core.Option.{Option, some, none}
+use lib.ListN.{length, take, drop}
+use Rattle.definition.specs.Bytes.{nameEnd}
+use Rattle.definition.specs.Sheet.{Record, recordAt, TypeEntry, typeEntry, typeFields, Expression, constantFields, Global, globalFields, Remap, remapFields, availableFields}
+use Rattle.definition.specs.Tests.{Seen, remapsMost, typesMost, constantsMost, globalsMost}
+use Rattle.records.specs.declared.Counts.{Counts}
+use Rattle.records.specs.declared.Place.{Place}
+use Rattle.records.specs.declared.Place.the-variants.{Nowhere, At}
+
+-- the record at a place of the sheet, and the entry that it is, by its kind
+abbrev pub recordFrom : List ℕ → ℕ → Record
+recordFrom s at = recordAt (drop at s)
+
+abbrev pub availableFrom : List ℕ → Place → Option (List ℕ)
+availableFrom s Nowhere = none
+availableFrom s (At at) = some (availableFields (recordFrom s at .body) .value)
+
+abbrev pub remapFrom : List ℕ → ℕ → Remap
+remapFrom s at = remapFields (recordFrom s at .body) .value
+
+-- a type, of its record
+abbrev pub typeOf : Record → TypeEntry
+typeOf r = typeEntry r (typeFields (r .tag) (r .body) (nameEnd (r .body) 0) .value)
+
+abbrev pub typeFrom : List ℕ → ℕ → TypeEntry
+typeFrom s at = typeOf (recordFrom s at)
+
+abbrev pub constantFrom : List ℕ → ℕ → Expression
+constantFrom s at = constantFields (recordFrom s at .tag) (recordFrom s at .body) .value
+
+abbrev pub globalFrom : List ℕ → ℕ → Global
+globalFrom s at = globalFields (recordFrom s at .body) (nameEnd (recordFrom s at .body) 0) .value
+
+-- the slices that the caller lends: where the records of each kind stand
+pub record Places : Type 0 where
+  pub remaps : List ℕ
+  pub types : List ℕ
+  pub constants : List ℕ
+  pub globals : List ℕ
+
+abbrev pub placesOf : List ℕ → List ℕ → List ℕ → List ℕ → Places
+placesOf r t c g = record { remaps = r; types = t; constants = c; globals = g }
+
+-- what has been read of the sheet s
+abbrev pub seenOf : List ℕ → Places → Counts → Seen
+seenOf s p k = record {
+  rank = k .rank;
+  available = availableFrom s (k .available);
+  remaps = map (remapFrom s) (take (k .remaps) (p .remaps));
+  types = map (typeFrom s) (take (k .types) (p .types));
+  constants = map (constantFrom s) (take (k .constants) (p .constants));
+  globals = map (globalFrom s) (take (k .globals) (p .globals));
+}
+
+-- the slices hold as many places as a sheet can fill
+pub record Ample (p : Places) : Type 0 where
+  pub remaps : remapsMost ≤ length (p .remaps)
+  pub types : typesMost ≤ length (p .types)
+  pub constants : constantsMost ≤ length (p .constants)
+  pub globals : globalsMost ≤ length (p .globals)
+
+-- no more has been read of any kind than a sheet may have
+pub record Few (k : Counts) : Type 0 where
+  pub remaps : k .remaps ≤ remapsMost
+  pub types : k .types ≤ typesMost
+  pub constants : k .constants ≤ constantsMost
+  pub globals : k .globals ≤ globalsMost

@@ -1,0 +1,175 @@
+// The sheet's frame: its header, the record at a place, the rank of a tag, and what has been read so far.
+// Decides tests 1 to 7 of document 01; what stands in a record's body is read elsewhere.
+ghost use mathlib.Core.Path.{_≡_};
+ghost use mathlib.Core.Bool.{Bool, true, false};
+ghost use Prim.Native.Nat.{_+_, _<_};
+ghost use lib.ListN.{drop};
+ghost use lib.Dec.{ltb};
+ghost use Rattle.definition.specs.Bytes.{u16At};
+ghost use Rattle.definition.specs.Sheet.{recordAt, tagRank};
+ghost use Rattle.definition.specs.Tests.{Seen, headerTest, noRecord, outOfOrder, room, placeTest};
+ghost use Rattle.records.specs.Counted.{Counted, isThere};
+
+pub const SHEET_LEAST: usize = 6;
+
+pub const SHEET_MOST: usize = 16384;
+
+pub const HEADER: usize = 6;
+
+pub const REMAPS_MOST: usize = 64;
+
+pub const TYPES_MOST: usize = 256;
+
+pub const CONSTANTS_MOST: usize = 256;
+
+pub const GLOBALS_MOST: usize = 64;
+
+// Where a record stands: how many bytes of the sheet come before it.
+pub enum Place {
+    Nowhere,
+    At(usize),
+}
+
+// What has been read: the rank of the last record, where Available stands, and how many there are of each other kind.
+// Where those stand is kept in slices, which the caller lends.
+pub struct Counts {
+    pub rank: u8,
+    pub available: Place,
+    pub remaps: usize,
+    pub types: usize,
+    pub constants: usize,
+    pub globals: usize,
+}
+
+// Tests 1, 2 and 3: the number of the first that fails, or 0.
+pub fn header_test(s: &[u8]) -> u8
+    ensures { λ r. ⌜ r ≡ headerTest (now (s .entry)) ⌝ }
+{
+    if s.len() < SHEET_LEAST {
+        return 1;
+    }
+    if SHEET_MOST < s.len() {
+        return 1;
+    }
+    if fields::u8_at(s, 0) != 1 {
+        return 2;
+    }
+    if 4 <= fields::u8_at(s, 5) {
+        return 3;
+    }
+    0
+}
+
+// What is left of the sheet from a place on.
+pub fn rest_at(s: &[u8], at: usize) -> &[u8]
+    ensures { λ r. ⌜ now r ≡ drop at (now (s .entry)) ⌝ }
+{
+    fields::part(s, at, s.len())
+}
+
+// Test 4: whether no whole record stands at the front of what is left.
+pub fn no_record(rest: &[u8]) -> bool
+    ensures { λ r. ⌜ r ≡ noRecord (now (rest .entry)) ⌝ }
+{
+    if rest.len() < 2 {
+        return true;
+    }
+    let n = fields::u16_at(rest, 0) as usize;
+    if n == 0 {
+        return true;
+    }
+    rest.len() < 2 + n
+}
+
+// The tag of the record at the front of what is left.
+pub fn tag_of(rest: &[u8]) -> u8
+    ensures { λ r. ⌜ r ≡ recordAt (now (rest .entry)) .tag ⌝ }
+{
+    fields::u8_at(rest, 2)
+}
+
+// Its body: the part of the sheet behind the length and the tag.
+pub fn body_of(rest: &[u8]) -> &[u8]
+    ensures { λ r. ⌜ now r ≡ recordAt (now (rest .entry)) .body ⌝ }
+{
+    let n = fields::u16_at(rest, 0) as usize;
+    if n == 0 {
+        return fields::part(rest, 3, 0);
+    }
+    fields::part(rest, 3, n - 1)
+}
+
+// The place behind the record that stands at `at`, at the front of `rest`.
+pub fn next_place(rest: &[u8], at: usize) -> usize
+    requires { ⌜ at < 4294967296 ⌝ }
+    ensures { λ r. ⌜ r ≡ at + (2 + u16At (now (rest .entry)) 0) ⌝ }
+{
+    at + (2 + fields::u16_at(rest, 0) as usize)
+}
+
+// Available 1, Remap 2, types 3, constants 4, globals 5; 0 is no tag.
+pub fn rank_of(t: u8) -> u8
+    ensures { λ r. ⌜ r ≡ tagRank t ⌝ }
+{
+    match t {
+        1 => 1,
+        2 => 2,
+        16..=28 => 3,
+        64..=68 => 4,
+        96 => 5,
+        _ => 0,
+    }
+}
+
+fn is_there(p: Place) -> bool
+    ensures { λ r. ⌜ r ≡ isThere p ⌝ }
+{
+    match p {
+        Place::Nowhere => false,
+        Place::At(_) => true,
+    }
+}
+
+// Test 6 of a record of rank r.
+fn out_of_order(k: Counts, r: u8) -> bool
+    ensures { λ b. ⌜ ((n : Seen) → Counted n k → b ≡ outOfOrder n r) ⌝ }
+{
+    if r < k.rank {
+        return true;
+    }
+    if r == 1 {
+        let p = k.available;
+        return is_there(p);
+    }
+    false
+}
+
+// Test 7 of a record of rank r.
+fn has_room(k: Counts, r: u8) -> bool
+    ensures { λ b. ⌜ ((n : Seen) → Counted n k → b ≡ room n r) ⌝ }
+{
+    match r {
+        2 => k.remaps < REMAPS_MOST,
+        3 => k.types < TYPES_MOST,
+        4 => k.constants < CONSTANTS_MOST,
+        5 => k.globals < GLOBALS_MOST,
+        _ => true,
+    }
+}
+
+// Tests 5, 6 and 7 of a record of tag t: the number of the first that fails, or 0.
+pub fn place_test(k: Counts, t: u8) -> u8
+    ensures { λ r. ⌜ ((n : Seen) → Counted n k → r ≡ placeTest n t) ⌝ }
+{
+    let r = rank_of(t);
+    if r == 0 {
+        return 5;
+    }
+    if out_of_order(k, r) {
+        return 6;
+    }
+    if !has_room(k, r) {
+        return 7;
+    }
+    0
+}

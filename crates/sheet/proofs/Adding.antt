@@ -1,0 +1,153 @@
+-- What is held after a record is what was held, with the record added: for each rank, the list of its kind is longer by
+-- the entry at the record's place. Then the counts: they are those of what was read, and stay within their limits.
+use Prim.Native.Nat.{ℕ, zero, suc, _+_, _≤_, _<_}
+use mathlib.Core.Path.{_≡_, refl, ap, sym, _∙_}
+use mathlib.Core.Bool.{true, not}
+use mathlib.Core.List.{List, [], _∷_, _++_, map}
+use native.Mathlib.Omega.{arith}
+use native.Mathlib.Numerals.{add-one}
+use borrow.Author.Tests.{ltb-true}
+use lib.Dec.{eqb, ltb}
+use lib.ListN.{length, take, set, length-map}
+use lib.Seq.{length-take-le, take-suc-set}
+use Rattle.definition.specs.Choice.{within}
+use Rattle.definition.specs.Sheet.{Record, tagRank, entryOf}
+use Rattle.definition.specs.Tests.{Seen, add, addRecord, placeTest, outOfOrder, room, readingTest, present}
+use Rattle.records.specs.Counted.{Counted, isThere}
+use Rattle.records.specs.Places.{Places, seenOf, Ample, Few, recordFrom, remapFrom, typeFrom, constantFrom, globalFrom, availableFrom}
+use Rattle.records.specs.declared.Counts.{Counts}
+use Rattle.records.specs.declared.Place.{Place}
+use Rattle.records.specs.declared.Place.the-variants.{Nowhere, At}
+use Rattle.definition.proofs.Truth.{pick-for, unless-zero, first-passed}
+use Rattle.sheet.specs.Holding.{notedAt, addCounts, Passed, Held}
+use Rattle.sheet.specs.Reading.{Looked}
+
+-- ---- the counts are those of what was read
+
+there : (s : List ℕ) (p : Place) → present (availableFrom s p) ≡ isThere p
+there s Nowhere = refl
+there s (At o) = refl
+
+count : {A : Type 0} (f : ℕ → A) (l : List ℕ) (n : ℕ) → n ≤ length l → length (map f (take n l)) ≡ n
+count f l n h = length-map (take n l) f ∙ length-take-le n l h
+
+pub counted : (s : List ℕ) (p : Places) (k : Counts) → Ample p → Few k → Counted (seenOf s p k) k
+counted s p k a f = record {
+  rank = refl;
+  available = there s (k .available);
+  remaps = count (remapFrom s) (p .remaps) (k .remaps) (omega arith);
+  types = count (typeFrom s) (p .types) (k .types) (omega arith);
+  constants = count (constantFrom s) (p .constants) (k .constants) (omega arith);
+  globals = count (globalFrom s) (p .globals) (k .globals) (omega arith);
+}
+
+pub looked : (s : List ℕ) (p : Places) (k : Counts) → Ample p → Few k → Looked s (p .remaps) (p .types) k (seenOf s p k)
+looked s p k a f = record { counted = counted s p k a f; remaps = refl; types = refl }
+
+-- ---- what a passed test of the place tells
+
+pub record Placed (n : Seen) (r : ℕ) : Type 0 where
+  pub ranked : 0 < r
+  pub room : room n r ≡ true
+
+pub placed : (n : Seen) (t : ℕ) → placeTest n t ≡ 0 → Placed n (tagRank t)
+unfolding placeTest
+placed n t h =
+    let a = unless-zero (ltb 0 (tagRank t)) 4 _ h in
+    let b = unless-zero (not (outOfOrder n (tagRank t))) 5 _ (a .1) in
+    record { ranked = ltb-true 0 (tagRank t) (a .0); room = unless-zero (room n (tagRank t)) 6 0 (b .1) .0 }
+
+pub placed-of : (n : Seen) (r : Record) → readingTest n r ≡ 0 → Placed n (tagRank (r .tag))
+unfolding readingTest
+placed-of n r h = placed n (r .tag) (first-passed (placeTest n (r .tag)) _ h .0)
+
+-- a rank is at most 5
+rank-most : (t : ℕ) → tagRank t ≤ 5
+unfolding tagRank
+rank-most t =
+    let P : ℕ → Type 0 = λ r. r ≤ 5 in
+    pick-for P (eqb t 1) _ _ (omega arith) (pick-for P (eqb t 2) _ _ (omega arith) (pick-for P (within 16 28 t) _ _ (omega arith)
+    (pick-for P (within 64 68 t) _ _ (omega arith) (pick-for P (eqb t 96) _ _ (omega arith) (omega arith)))))
+
+-- what holds of each rank holds of the rank of a tag that has one
+by-rank : (P : ℕ → Type 0) → P 1 → P 2 → P 3 → P 4 → P 5 → (r : ℕ) → 0 < r → r ≤ 5 → P r
+by-rank P a b c d e zero l h = absurd (omega arith)
+by-rank P a b c d e (suc zero) l h = a
+by-rank P a b c d e (suc (suc zero)) l h = b
+by-rank P a b c d e (suc (suc (suc zero))) l h = c
+by-rank P a b c d e (suc (suc (suc (suc zero)))) l h = d
+by-rank P a b c d e (suc (suc (suc (suc (suc zero))))) l h = e
+by-rank P a b c d e (suc (suc (suc (suc (suc (suc r)))))) l h = absurd (omega arith)
+
+-- ---- one more
+
+map-snoc : {A : Type 0} (f : ℕ → A) (os : List ℕ) (o : ℕ) → map f (os ++ (o ∷ [])) ≡ map f os ++ (f o ∷ [])
+map-snoc f [] o = refl
+map-snoc f (p ∷ os) o = ap (λ es. f p ∷ es) (map-snoc f os o)
+
+one-more : {A : Type 0} (f : ℕ → A) (l : List ℕ) (n at : ℕ) → n < length l → map f (take (n + 1) (set l n at)) ≡ map f (take n l) ++ (f at ∷ [])
+one-more f l n at h = rw (add-one, take-suc-set l n at h) (map-snoc f (take n l) at)
+
+module _ (s : List ℕ) (p : Places) (k : Counts) (at : ℕ) (a : Ample p) (f : Few k) where
+  abbrev n : Seen
+  n = seenOf s p k
+
+  abbrev x : Record
+  x = recordFrom s at
+
+  abbrev Adds : ℕ → Type 0
+  Adds r = tagRank (recordFrom s at .tag) ≡ r → room (seenOf s p k) r ≡ true
+      → (seenOf s (notedAt p k r at) (addCounts k r at) ≡ addRecord (seenOf s p k) (recordFrom s at)) × Few (addCounts k r at)
+
+  adds-1 : Adds 1
+  unfolding notedAt addCounts addRecord add entryOf
+  adds-1 e h = (simp e, record { remaps = f .remaps; types = f .types; constants = f .constants; globals = f .globals })
+
+  adds-2 : Adds 2
+  unfolding notedAt addCounts addRecord add entryOf
+  adds-2 e h =
+      let c = counted s p k a f in
+      let l : k .remaps < 64 = rw (c .remaps) at (ltb-true (length (n .remaps)) 64 h) in
+      (simp (e, one-more (remapFrom s) (p .remaps) (k .remaps) at (omega arith)), record { remaps = omega arith; types = f .types; constants = f .constants; globals = f .globals })
+
+  adds-3 : Adds 3
+  unfolding notedAt addCounts addRecord add entryOf
+  adds-3 e h =
+      let c = counted s p k a f in
+      let l : k .types < 256 = rw (c .types) at (ltb-true (length (n .types)) 256 h) in
+      (simp (e, one-more (typeFrom s) (p .types) (k .types) at (omega arith)), record { remaps = f .remaps; types = omega arith; constants = f .constants; globals = f .globals })
+
+  adds-4 : Adds 4
+  unfolding notedAt addCounts addRecord add entryOf
+  adds-4 e h =
+      let c = counted s p k a f in
+      let l : k .constants < 256 = rw (c .constants) at (ltb-true (length (n .constants)) 256 h) in
+      (simp (e, one-more (constantFrom s) (p .constants) (k .constants) at (omega arith)), record { remaps = f .remaps; types = f .types; constants = omega arith; globals = f .globals })
+
+  adds-5 : Adds 5
+  unfolding notedAt addCounts addRecord add entryOf
+  adds-5 e h =
+      let c = counted s p k a f in
+      let l : k .globals < 64 = rw (c .globals) at (ltb-true (length (n .globals)) 64 h) in
+      (simp (e, one-more (globalFrom s) (p .globals) (k .globals) at (omega arith)), record { remaps = f .remaps; types = f .types; constants = f .constants; globals = omega arith })
+
+  pub adds : (r : ℕ) → r ≡ tagRank (recordFrom s at .tag) → Placed (seenOf s p k) (tagRank (recordFrom s at .tag))
+      → (seenOf s (notedAt p k r at) (addCounts k r at) ≡ addRecord (seenOf s p k) (recordFrom s at)) × Few (addCounts k r at)
+  adds r e h =
+      by-rank Adds adds-1 adds-2 adds-3 adds-4 adds-5 r
+      (rw e (h .ranked)) (rw e (rank-most (recordFrom s at .tag))) (sym e) (rw e (h .room))
+
+-- what `hold` leaves, in slices of the same lengths
+pub held : (s : List ℕ) (p p′ : Places) (k k′ : Counts) (at r : ℕ) → Passed s p k at → r ≡ tagRank (recordFrom s at .tag)
+    → p′ ≡ notedAt p k r at → k′ ≡ addCounts k r at
+    → length (p′ .remaps) ≡ length (p .remaps) → length (p′ .types) ≡ length (p .types)
+    → length (p′ .constants) ≡ length (p .constants) → length (p′ .globals) ≡ length (p .globals)
+    → Held s p k at p′ k′
+held s p p′ k k′ at r h er ep ek lr lt lc lg =
+    let a = adds s p k at (h .ample) (h .few) r er (placed-of (seenOf s p k) (recordFrom s at) (h .tested)) in
+    let m = h .ample in
+    record {
+      ample = record { remaps = rw lr (m .remaps); types = rw lt (m .types); constants = rw lc (m .constants); globals = rw lg (m .globals) };
+      few = rw ek (a .1);
+      seen = rw (ep, ek) (a .0);
+    }

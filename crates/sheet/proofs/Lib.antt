@@ -1,0 +1,4 @@
+pub mod Earlier
+pub mod Adding
+pub mod Turn
+pub mod Fitting

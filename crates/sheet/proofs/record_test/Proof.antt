@@ -1,0 +1,43 @@
+-- The tests of the place, then those of the entry.
+use Prim.Native.Nat.{ℕ}
+use mathlib.Core.Path.{_∙_, ap, ap₂}
+use mathlib.Core.List.{List}
+use borrow.Author.Needs.{needs}
+use Rattle.definition.specs.Tests.{readingTest, placeTest, entryTest}
+use Rattle.definition.specs.Sheet.{entryOf}
+use Rattle.records.proofs.Chain.{first-stop, first-go}
+use Rattle.sheet_fields.specs.Fields.{recordOf}
+use Rattle.sheet.proofs.record_test.Statement.{statement}
+use Rattle.sheet.proofs.record_test.Tie as tie
+
+tag-of-requires : tie.Need-tag-of-requires
+tag-of-requires c κs = search needs
+
+place-test-requires : tie.Need-place-test-requires
+place-test-requires c κs = search needs
+
+returns : tie.Need-returns
+unfolding readingTest
+returns c = λ n l. first-stop _ _ _ (c .before .place-test .ensures n (l .counted) ∙ ap (placeTest n) (c .before .before .tag-of .ensures)) (c .if1 .taken)
+
+body-of-requires : tie.Need-body-of-requires
+body-of-requires c κs = search needs
+
+entry-test-requires : tie.Need-entry-test-requires
+entry-test-requires c κs = search needs
+
+returns-2 : tie.Need-returns-2
+unfolding readingTest
+returns-2 c = λ n l. first-go _ _ _ _ (c .before .before .before .place-test .ensures n (l .counted) ∙ ap (placeTest n) (c .before .before .before .before .tag-of .ensures)) (c .before .before .if1 .left)
+    (c .entry-test .ensures n l ∙ ap₂ (λ (t : ℕ) (b : List ℕ). entryTest n (recordOf t b) (entryOf (recordOf t b) .value) (entryOf (recordOf t b) .end)) (c .before .before .before .before .tag-of .ensures) (c .before .body-of .ensures))
+
+pub record-test-spec : {M : Type 1} → statement M
+record-test-spec =
+    tie.close
+    (tie.spec
+    tag-of-requires
+    place-test-requires
+    returns
+    body-of-requires
+    entry-test-requires
+    returns-2)

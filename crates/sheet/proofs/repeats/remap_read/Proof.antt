@@ -1,0 +1,114 @@
+-- What is left of the entries answers for all; a group or a binding that differs makes an entry another.
+use Prim.Native.Nat.{ℕ, _-_, _≤_}
+use mathlib.Core.List.{List, map}
+use mathlib.Core.Path.{_≡_, refl, ap, sym, _∙_}
+use native.Mathlib.Omega.{arith}
+use borrow.Author.Tests.{eq-eqb, ne-eqb}
+use borrow.Author.Needs.{needs}
+use denote.Ref.{now}
+use lib.ListN.{take, drop}
+use Rattle.definition.specs.Tests.{remapRead}
+use Rattle.definition.specs.Sheet.{recordAt, remapFields}
+use mathlib.Core.Bool.{and-false}
+use Rattle.records.specs.Places.{remapFrom}
+use Rattle.sheet.proofs.Earlier.{skip, hit, none-left, remaps as search-remaps}
+use Rattle.sheet.proofs.repeats.remap_read.Statement.{statement}
+use Rattle.sheet.proofs.repeats.remap_read.Tie as tie
+
+abbrev Inv-entries : tie.InvT-entries
+Inv-entries s remaps n b k₀ k = (k ≤ n) × (remapRead (remapFields b .value) (map (remapFrom s) (take n remaps)) ≡ remapRead (remapFields b .value) (map (remapFrom s) (drop k (take n remaps))))
+
+abbrev μ-entries : tie.MeasureT-entries
+μ-entries s remaps n b k₀ k = n - k
+
+entries-holds : tie.Need-entries-holds Inv-entries μ-entries
+entries-holds c = (search needs, refl)
+
+mul-rest-at : tie.Need-mul-rest-at Inv-entries μ-entries
+mul-rest-at c = search needs
+
+shared-slice-read-rest-at : tie.Need-shared-slice-read-rest-at Inv-entries μ-entries
+shared-slice-read-rest-at c = search needs
+
+cast-rest-at : tie.Need-cast-rest-at Inv-entries μ-entries
+cast-rest-at c = omega (arith, c .shared-slice-known4 .given (c .before .before .entries .k))
+
+rest-at-requires : tie.Need-rest-at-requires Inv-entries μ-entries
+rest-at-requires c κs = search needs
+
+body-of-requires : tie.Need-body-of-requires Inv-entries μ-entries
+body-of-requires c κs = search needs
+
+add-k : tie.Need-add-k Inv-entries μ-entries
+add-k c = search needs
+
+u32-at-requires : tie.Need-u32-at-requires Inv-entries μ-entries
+u32-at-requires c κs = search needs
+
+u32-at-requires-2 : tie.Need-u32-at-requires-2 Inv-entries μ-entries
+u32-at-requires-2 c κs = search needs
+
+entries-less : tie.Need-entries-less Inv-entries μ-entries
+entries-less c = search needs
+
+entries-again : tie.Need-entries-again Inv-entries μ-entries
+unfolding remapFields
+entries-again c =
+    let a = c .before .before .before .before .before .before .before .before .before .before .before .args in
+    let l = c .before .before .before .before .before .before .before .entries in
+    let body = c .before .before .before .body-of .ensures ∙ ap (λ (y : List ℕ). recordAt y .body) (c .before .before .before .before .rest-at .ensures) in
+    (search needs, l .inv .1 ∙ skip (search-remaps (now (a .s)) (remapFields (now (a .b)) .value)) (now (a .remaps)) (a .n) (l .k) (c .before .before .before .before .before .before .before .before .before .before .before .pre) (c .before .before .before .before .before .before .entries-test .taken) (simp (← body, ← c .before .before .u32-at .ensures, ← c .before .u32-at2 .ensures, ne-eqb _ _ (c .if1 .taken))))
+
+u32-at-requires-3 : tie.Need-u32-at-requires-3 Inv-entries μ-entries
+u32-at-requires-3 c κs = search needs
+
+u32-at-requires-4 : tie.Need-u32-at-requires-4 Inv-entries μ-entries
+u32-at-requires-4 c κs = search needs
+
+entries-less-2 : tie.Need-entries-less-2 Inv-entries μ-entries
+entries-less-2 c = search needs
+
+entries-again-2 : tie.Need-entries-again-2 Inv-entries μ-entries
+unfolding remapFields
+entries-again-2 c =
+    let a = c .before .before .before .before .before .before .before .before .before .before .before .before .before .before .args in
+    let l = c .before .before .before .before .before .before .before .before .before .before .entries in
+    let body = c .before .before .before .before .before .before .body-of .ensures ∙ ap (λ (y : List ℕ). recordAt y .body) (c .before .before .before .before .before .before .before .rest-at .ensures) in
+    (search needs, l .inv .1 ∙ skip (search-remaps (now (a .s)) (remapFields (now (a .b)) .value)) (now (a .remaps)) (a .n) (l .k) (c .before .before .before .before .before .before .before .before .before .before .before .before .before .before .pre) (c .before .before .before .before .before .before .before .before .before .entries-test .taken) (simp (← body, ← c .before .before .u32-at3 .ensures, ← c .before .u32-at4 .ensures, ne-eqb _ _ (c .if2 .taken), and-false)))
+
+returns : tie.Need-returns Inv-entries μ-entries
+unfolding remapFields
+returns c =
+    let a = c .before .before .before .before .before .before .before .before .before .before .before .before .before .before .args in
+    let l = c .before .before .before .before .before .before .before .before .before .before .entries in
+    let body = c .before .before .before .before .before .before .body-of .ensures ∙ ap (λ (y : List ℕ). recordAt y .body) (c .before .before .before .before .before .before .before .rest-at .ensures) in
+    sym (l .inv .1 ∙ hit (search-remaps (now (a .s)) (remapFields (now (a .b)) .value)) (now (a .remaps)) (a .n) (l .k) (c .before .before .before .before .before .before .before .before .before .before .before .before .before .before .pre) (c .before .before .before .before .before .before .before .before .before .entries-test .taken) (simp (← body, ← c .before .before .before .before .before .u32-at .ensures, ← c .before .before .before .before .u32-at2 .ensures, eq-eqb _ _ (c .before .before .before .if1 .left), ← c .before .before .u32-at3 .ensures, ← c .before .u32-at4 .ensures, eq-eqb _ _ (c .if2 .left))))
+
+returns-2 : tie.Need-returns-2 Inv-entries μ-entries
+returns-2 c =
+    let a = c .before .before .before .before .before .args in
+    sym (c .before .entries .inv .1 ∙ none-left (search-remaps (now (a .s)) (remapFields (now (a .b)) .value)) (now (a .remaps)) (a .n) (c .before .entries .k) (c .before .before .before .before .before .pre) (c .entries-test .left))
+
+pub remap-read-spec : {M : Type 1} → statement M
+remap-read-spec =
+    tie.close
+    (tie.spec
+    Inv-entries
+    μ-entries
+    entries-holds
+    mul-rest-at
+    shared-slice-read-rest-at
+    cast-rest-at
+    rest-at-requires
+    body-of-requires
+    add-k
+    u32-at-requires
+    u32-at-requires-2
+    entries-less
+    entries-again
+    u32-at-requires-3
+    u32-at-requires-4
+    entries-less-2
+    entries-again-2
+    returns
+    returns-2)

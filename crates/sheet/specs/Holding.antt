@@ -1,0 +1,48 @@
+-- What is held of the records that were read, and what is held after one more.
+use Prim.Native.Nat.{ℕ, _+_, _<_}
+use mathlib.Core.Path.{_≡_}
+use mathlib.Core.List.{List}
+use lib.Dec.{eqb}
+use lib.ListN.{set}
+use Rattle.definition.specs.Choice.{pick}
+use Rattle.definition.specs.Tests.{readingTest, addRecord}
+use Rattle.records.specs.Places.{Places, seenOf, recordFrom, Ample, Few}
+use Rattle.records.specs.declared.Counts.{Counts}
+use Rattle.records.specs.declared.Place.the-variants.{Nowhere, At}
+
+-- before the first record
+abbrev pub noCounts : Counts
+noCounts = record { rank = 0; available = Nowhere; remaps = 0; types = 0; constants = 0; globals = 0 }
+
+-- after a record of rank r at a place: the place is kept in the list of its kind
+unfoldable pub notedAt : Places → Counts → ℕ → ℕ → Places
+notedAt p k r at = record {
+  remaps = pick (eqb r 2) (set (p .remaps) (k .remaps) at) (p .remaps);
+  types = pick (eqb r 3) (set (p .types) (k .types) at) (p .types);
+  constants = pick (eqb r 4) (set (p .constants) (k .constants) at) (p .constants);
+  globals = pick (eqb r 5) (set (p .globals) (k .globals) at) (p .globals);
+}
+
+-- and its kind's count rises
+unfoldable pub addCounts : Counts → ℕ → ℕ → Counts
+addCounts k r at = record {
+  rank = r;
+  available = pick (eqb r 1) (At at) (k .available);
+  remaps = pick (eqb r 2) (k .remaps + 1) (k .remaps);
+  types = pick (eqb r 3) (k .types + 1) (k .types);
+  constants = pick (eqb r 4) (k .constants + 1) (k .constants);
+  globals = pick (eqb r 5) (k .globals + 1) (k .globals);
+}
+
+-- the record at a place passed its tests, after what is held in p and k
+pub record Passed (s : List ℕ) (p : Places) (k : Counts) (at : ℕ) : Type 0 where
+  pub ample : Ample p
+  pub few : Few k
+  pub small : at < 4294967296
+  pub tested : readingTest (seenOf s p k) (recordFrom s at) ≡ 0
+
+-- what is then held in p′ and k′ is what was held, with the record added
+pub record Held (s : List ℕ) (p : Places) (k : Counts) (at : ℕ) (p′ : Places) (k′ : Counts) : Type 0 where
+  pub ample : Ample p′
+  pub few : Few k′
+  pub seen : seenOf s p′ k′ ≡ addRecord (seenOf s p k) (recordFrom s at)

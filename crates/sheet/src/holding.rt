@@ -1,0 +1,106 @@
+// What is held of the records that were read: their places in the slices of their kind, and counts.
+use records::Counts;
+use records::Place;
+ghost use mathlib.Core.Path.{_≡_};
+ghost use Prim.Native.Nat.{_<_};
+ghost use lib.ListN.{set};
+ghost use Rattle.records.specs.Places.{placesOf, Few};
+ghost use Rattle.sheet.specs.Holding.{noCounts, notedAt, addCounts, Passed, Held};
+
+pub fn nothing() -> Counts
+    ensures { λ r. ⌜ r ≡ noCounts ⌝ }
+{
+    Counts {
+        rank: 0,
+        available: Place::Nowhere,
+        remaps: 0,
+        types: 0,
+        constants: 0,
+        globals: 0,
+    }
+}
+
+// Keeps a place as the n-th of its kind.
+fn put(places: &mut [u32], n: usize, at: usize)
+    requires { ⌜ at < 4294967296 ⌝ }
+    ensures { λ r. ⌜ now (places .exit) ≡ set (now (places .entry)) n at ⌝ }
+{
+    if n < places.len() {
+        places[n] = at as u32;
+    }
+}
+
+// Keeps the place of a record of rank r.
+fn note(
+    remaps: &mut [u32],
+    types: &mut [u32],
+    constants: &mut [u32],
+    globals: &mut [u32],
+    k: Counts,
+    r: u8,
+    at: usize,
+)
+    requires { ⌜ at < 4294967296 ⌝ }
+    ensures { λ x. ⌜ placesOf (now (remaps .exit)) (now (types .exit)) (now (constants .exit)) (now (globals .exit)) ≡ notedAt (placesOf (now (remaps .entry)) (now (types .entry)) (now (constants .entry)) (now (globals .entry))) k r at ⌝ }
+{
+    match r {
+        2 => put(remaps, k.remaps, at),
+        3 => put(types, k.types, at),
+        4 => put(constants, k.constants, at),
+        5 => put(globals, k.globals, at),
+        _ => {}
+    }
+}
+
+// The counts after a record of rank r.
+fn added(mut k: Counts, r: u8, at: usize) -> Counts
+    requires { ⌜ Few k ⌝ }
+    ensures { λ x. ⌜ x ≡ addCounts k r at ⌝ }
+{
+    k.rank = r;
+    match r {
+        1 => Counts {
+            rank: r,
+            available: Place::At(at),
+            remaps: k.remaps,
+            types: k.types,
+            constants: k.constants,
+            globals: k.globals,
+        },
+        2 => {
+            k.remaps += 1;
+            k
+        }
+        3 => {
+            k.types += 1;
+            k
+        }
+        4 => {
+            k.constants += 1;
+            k
+        }
+        5 => {
+            k.globals += 1;
+            k
+        }
+        _ => k,
+    }
+}
+
+// Holds the record at a place, which passed its tests, with what was held before.
+pub fn hold(
+    sheet: &[u8],
+    remaps: &mut [u32],
+    types: &mut [u32],
+    constants: &mut [u32],
+    globals: &mut [u32],
+    k: Counts,
+    at: usize,
+) -> Counts
+    requires { ⌜ Passed (now sheet) (placesOf (now remaps) (now types) (now constants) (now globals)) k at ⌝ }
+    ensures { λ r. ⌜ Held (now (sheet .entry)) (placesOf (now (remaps .entry)) (now (types .entry)) (now (constants .entry)) (now (globals .entry))) k at (placesOf (now (remaps .exit)) (now (types .exit)) (now (constants .exit)) (now (globals .exit))) r ⌝ }
+{
+    let rank = records::rank_of(records::tag_of(records::rest_at(sheet, at)));
+    note(remaps, types, constants, globals, k, rank, at);
+    added(k, rank, at)
+}

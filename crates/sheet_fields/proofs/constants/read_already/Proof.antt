@@ -1,0 +1,54 @@
+-- An arm for each tag: with its number put in, the definition's choice computes to that arm; a list of no numbers is below any.
+use mathlib.Core.Path.{sym, _∙_}
+use borrow.Author.Needs.{needs}
+use borrow.Author.Tests.{ne-eqb}
+use Rattle.definition.specs.Sheet.{constantFields}
+use mathlib.Core.Bool.{and-true}
+use Rattle.sheet_fields.proofs.constants.read_already.Statement.{statement}
+use Rattle.sheet_fields.proofs.constants.read_already.Tie as tie
+
+one-below-requires : tie.Need-one-below-requires
+one-below-requires c κs = search needs
+
+one-below-requires-2 : tie.Need-one-below-requires-2
+one-below-requires-2 c κs = search needs
+
+compose-read-requires : tie.Need-compose-read-requires
+compose-read-requires c κs = search needs
+
+one-below-requires-3 : tie.Need-one-below-requires-3
+one-below-requires-3 c κs = search needs
+
+returns : tie.Need-returns
+unfolding constantFields
+returns c = simp (c .match .keys1) cc
+
+returns-2 : tie.Need-returns-2
+unfolding constantFields
+returns-2 c = simp (c .before .match .keys2) cc
+
+returns-3 : tie.Need-returns-3
+unfolding constantFields
+returns-3 c = simp (c .before .match .keys3) (c .one-below2 .ensures ∙ sym (and-true _))
+
+returns-4 : tie.Need-returns-4
+unfolding constantFields
+returns-4 c = simp (c .before .match .keys4) cc
+
+returns-5 : tie.Need-returns-5
+unfolding constantFields
+returns-5 c = simp (ne-eqb _ _ (c .before .match .rest .0 .0 .0 .1), ne-eqb _ _ (c .before .match .rest .0 .0 .1), ne-eqb _ _ (c .before .match .rest .0 .1), ne-eqb _ _ (c .before .match .rest .1)) cc
+
+pub read-already-spec : {M : Type 1} → statement M
+read-already-spec =
+    tie.close
+    (tie.spec
+    one-below-requires
+    one-below-requires-2
+    compose-read-requires
+    one-below-requires-3
+    returns
+    returns-2
+    returns-3
+    returns-4
+    returns-5)

@@ -1,0 +1,48 @@
+-- An arm for each tag: with its number put in, the definition's choice computes to that arm.
+use borrow.Author.Tests.{ne-eqb}
+use borrow.Author.Needs.{needs}
+use Rattle.definition.specs.Sheet.{constantFields}
+use Rattle.sheet_fields.proofs.constants.values_fit.Statement.{statement}
+use Rattle.sheet_fields.proofs.constants.values_fit.Tie as tie
+
+literal-fits-requires : tie.Need-literal-fits-requires
+literal-fits-requires c κs = search needs
+
+u8-at-requires : tie.Need-u8-at-requires
+u8-at-requires c κs = search needs
+
+size-fits-requires : tie.Need-size-fits-requires
+size-fits-requires c κs = search needs
+
+returns : tie.Need-returns
+unfolding constantFields
+returns c = simp (c .before .match .keys1) cc
+
+returns-2 : tie.Need-returns-2
+unfolding constantFields
+returns-2 c = simp (c .match .keys2) cc
+
+returns-3 : tie.Need-returns-3
+unfolding constantFields
+returns-3 c = simp (c .match .keys3) cc
+
+returns-4 : tie.Need-returns-4
+unfolding constantFields
+returns-4 c = simp (c .match .keys4) cc
+
+returns-5 : tie.Need-returns-5
+unfolding constantFields
+returns-5 c = simp (ne-eqb _ _ (c .before .before .match .rest .0 .0 .0 .1), ne-eqb _ _ (c .before .before .match .rest .0 .0 .1), ne-eqb _ _ (c .before .before .match .rest .0 .1), ne-eqb _ _ (c .before .before .match .rest .1)) cc
+
+pub values-fit-spec : {M : Type 1} → statement M
+values-fit-spec =
+    tie.close
+    (tie.spec
+    literal-fits-requires
+    u8-at-requires
+    size-fits-requires
+    returns
+    returns-2
+    returns-3
+    returns-4
+    returns-5)

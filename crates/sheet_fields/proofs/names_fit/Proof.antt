@@ -1,0 +1,62 @@
+-- An arm for each rank: with its number put in, the definition's choice computes to that arm; a type's own name comes first.
+use borrow.Author.Needs.{needs}
+use borrow.Author.Tests.{ne-eqb}
+use Rattle.definition.specs.Sheet.{globalFields, entryOf}
+use mathlib.Core.Bool.{and-true}
+use Rattle.sheet_fields.proofs.names_fit.Statement.{statement}
+use Rattle.sheet_fields.proofs.names_fit.Tie as tie
+
+rank-of-requires : tie.Need-rank-of-requires
+rank-of-requires c κs = search needs
+
+name-fits-requires : tie.Need-name-fits-requires
+name-fits-requires c κs = search needs
+
+name-end-requires : tie.Need-name-end-requires
+name-end-requires c κs = search needs
+
+names-fit-requires : tie.Need-names-fit-requires
+names-fit-requires c κs = search needs
+
+name-fits-requires-2 : tie.Need-name-fits-requires-2
+name-fits-requires-2 c κs = search needs
+
+returns : tie.Need-returns
+unfolding entryOf
+returns c = simp (← c .before .rank-of .ensures, c .match .keys1, and-true) cc
+
+returns-2 : tie.Need-returns-2
+unfolding entryOf
+returns-2 c = simp (← c .before .rank-of .ensures, c .match .keys2, and-true) cc
+
+returns-3 : tie.Need-returns-3
+unfolding entryOf
+returns-3 c = simp (← c .before .before .before .before .before .rank-of .ensures, c .before .before .before .before .match .keys3, ← c .before .before .before .name-fits .ensures, c .before .before .if1 .taken) cc
+
+returns-4 : tie.Need-returns-4
+unfolding entryOf
+returns-4 c = simp (← c .before .before .before .rank-of .ensures, c .before .before .match .keys3, ← c .before .name-fits .ensures, c .if1 .left)
+
+returns-5 : tie.Need-returns-5
+unfolding entryOf
+returns-5 c = simp (← c .before .rank-of .ensures, c .match .keys4, and-true) cc
+
+returns-6 : tie.Need-returns-6
+unfolding entryOf globalFields
+returns-6 c = simp (← c .before .before .rank-of .ensures, ne-eqb _ _ (c .before .match .rest .0 .0 .0 .1), ne-eqb _ _ (c .before .match .rest .0 .0 .1), ne-eqb _ _ (c .before .match .rest .0 .1), ne-eqb _ _ (c .before .match .rest .1), and-true) cc
+
+pub names-fit-spec : {M : Type 1} → statement M
+names-fit-spec =
+    tie.close
+    (tie.spec
+    rank-of-requires
+    name-fits-requires
+    name-end-requires
+    names-fit-requires
+    name-fits-requires-2
+    returns
+    returns-2
+    returns-3
+    returns-4
+    returns-5
+    returns-6)

@@ -1,0 +1,61 @@
+-- An arm for each rank: with its number put in, the definition's choice computes to that arm; a type names no constants.
+use borrow.Author.Needs.{needs}
+use borrow.Author.Tests.{ne-eqb}
+use Rattle.definition.specs.Sheet.{globalFields, entryOf}
+use mathlib.Core.Bool.{and-true}
+use Rattle.sheet_fields.proofs.read_already.Statement.{statement}
+use Rattle.sheet_fields.proofs.read_already.Tie as tie
+
+rank-of-requires : tie.Need-rank-of-requires
+rank-of-requires c κs = search needs
+
+name-end-requires : tie.Need-name-end-requires
+name-end-requires c κs = search needs
+
+read-already-requires : tie.Need-read-already-requires
+read-already-requires c κs = search needs
+
+read-already-requires-2 : tie.Need-read-already-requires-2
+read-already-requires-2 c κs = search needs
+
+name-end-requires-2 : tie.Need-name-end-requires-2
+name-end-requires-2 c κs = search needs
+
+read-already-requires-3 : tie.Need-read-already-requires-3
+read-already-requires-3 c κs = search needs
+
+returns : tie.Need-returns
+unfolding entryOf
+returns c = simp (← c .before .rank-of .ensures, c .match .keys1, and-true) cc
+
+returns-2 : tie.Need-returns-2
+unfolding entryOf
+returns-2 c = simp (← c .before .rank-of .ensures, c .match .keys2, and-true) cc
+
+returns-3 : tie.Need-returns-3
+unfolding entryOf
+returns-3 c = simp (← c .before .before .before .rank-of .ensures, c .before .before .match .keys3, and-true) cc
+
+returns-4 : tie.Need-returns-4
+unfolding entryOf
+returns-4 c = simp (← c .before .before .rank-of .ensures, c .before .match .keys4, and-true) cc
+
+returns-5 : tie.Need-returns-5
+unfolding entryOf globalFields
+returns-5 c = simp (← c .before .before .before .rank-of .ensures, ne-eqb _ _ (c .before .before .match .rest .0 .0 .0 .1), ne-eqb _ _ (c .before .before .match .rest .0 .0 .1), ne-eqb _ _ (c .before .before .match .rest .0 .1), ne-eqb _ _ (c .before .before .match .rest .1)) cc
+
+pub read-already-spec : {M : Type 1} → statement M
+read-already-spec =
+    tie.close
+    (tie.spec
+    rank-of-requires
+    name-end-requires
+    read-already-requires
+    read-already-requires-2
+    name-end-requires-2
+    read-already-requires-3
+    returns
+    returns-2
+    returns-3
+    returns-4
+    returns-5)

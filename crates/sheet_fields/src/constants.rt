@@ -1,0 +1,100 @@
+// The fields of a constant: an arm for each tag, in the order of document 01's list.
+use crate::values::size_fits;
+ghost use mathlib.Core.Path.{_≡_};
+ghost use mathlib.Core.Bool.{_&&_};
+ghost use mathlib.Core.List.{[], _∷_};
+ghost use Prim.Native.Nat.{_<_};
+ghost use Rattle.definition.specs.Bytes.{u16At};
+ghost use Rattle.definition.specs.Sheet.{literalFields, constantFields, u16sAt};
+ghost use Rattle.definition.specs.Tests.{literalFits, expressionFits, expressionTypes, expressionConstants, below};
+
+// Forms 0 F64, 1 F32, 2 U32, 3 I32, 4 Bool.
+fn literal_end(b: &[u8]) -> usize
+    ensures { λ r. ⌜ r ≡ literalFields (now (b .entry)) .end ⌝ }
+{
+    match fields::u8_at(b, 0) {
+        0 => 9,
+        1 => 5,
+        2 => 5,
+        3 => 5,
+        _ => 2,
+    }
+}
+
+pub fn end_of(t: u8, b: &[u8]) -> usize
+    ensures { λ r. ⌜ r ≡ constantFields t (now (b .entry)) .end ⌝ }
+{
+    match t {
+        64 => literal_end(b),
+        65 => 2,
+        66 => 2,
+        67 => 4 + 2 * fields::u16_at(b, 2) as usize,
+        _ => 3,
+    }
+}
+
+// Of the literals only a Bool has values that it may not have.
+fn literal_fits(b: &[u8]) -> bool
+    ensures { λ r. ⌜ r ≡ literalFits (literalFields (now (b .entry)) .value) ⌝ }
+{
+    match fields::u8_at(b, 0) {
+        0 => true,
+        1 => true,
+        2 => true,
+        3 => true,
+        _ => fields::u8_at(b, 1) <= 1,
+    }
+}
+
+pub fn values_fit(t: u8, b: &[u8]) -> bool
+    ensures { λ r. ⌜ r ≡ expressionFits (constantFields t (now (b .entry)) .value) ⌝ }
+{
+    match t {
+        64 => literal_fits(b),
+        65 => true,
+        66 => true,
+        67 => true,
+        _ => size_fits(fields::u8_at(b, 0)),
+    }
+}
+
+// Whether the number at `at` is below `most`.
+pub fn one_below(b: &[u8], at: usize, most: usize) -> bool
+    ensures { λ r. ⌜ r ≡ below most (u16At (now (b .entry)) at ∷ []) ⌝ }
+{
+    (fields::u16_at(b, at) as usize) < most
+}
+
+// Whether each of a Compose's n parts is below `most`.
+fn parts_below(b: &[u8], n: u16, most: usize) -> bool
+    ensures { λ r. ⌜ r ≡ below most (u16sAt (now (b .entry)) 4 n) ⌝ }
+{
+    let mut p = 4;
+    let mut k = n;
+    while 0 < k {
+        if most <= fields::u16_at(b, p) as usize {
+            return false;
+        }
+        p += 2;
+        k -= 1;
+    }
+    true
+}
+
+fn compose_read(b: &[u8], types: usize, constants: usize) -> bool
+    ensures { λ r. ⌜ r ≡ (below types (u16At (now (b .entry)) 0 ∷ []) && below constants (u16sAt (now (b .entry)) 4 (u16At (now (b .entry)) 2))) ⌝ }
+{
+    one_below(b, 0, types) && parts_below(b, fields::u16_at(b, 2), constants)
+}
+
+pub fn read_already(t: u8, b: &[u8], types: usize, constants: usize) -> bool
+    ensures { λ r. ⌜ r ≡ (below types (expressionTypes (constantFields t (now (b .entry)) .value)) && below constants (expressionConstants (constantFields t (now (b .entry)) .value))) ⌝ }
+{
+    match t {
+        64 => true,
+        65 => one_below(b, 0, constants),
+        66 => one_below(b, 0, types),
+        67 => compose_read(b, types, constants),
+        _ => one_below(b, 1, constants),
+    }
+}

@@ -1,0 +1,78 @@
+// The fields of a record, by its tag: where they end (test 8), its names (9), its values (10) and its references (11).
+// Each function answers for every tag and every body, whether or not the tests before it passed, so that the tests can
+// be put in any order above; document 01's order is kept by whoever calls them.
+mod constants;
+mod globals;
+mod members;
+mod types;
+mod values;
+
+ghost use mathlib.Core.Path.{_≡_};
+ghost use mathlib.Core.Bool.{_&&_};
+ghost use Rattle.definition.specs.Choice.{every};
+ghost use Rattle.definition.specs.Utf8.{nameFits};
+ghost use Rattle.definition.specs.Sheet.{entryOf};
+ghost use Rattle.definition.specs.Tests.{formKnown, namesOf, valuesFit, typesNamed, constantsNamed, below};
+ghost use Rattle.sheet_fields.specs.Fields.{recordOf};
+
+// The part of test 10 that comes before test 8: a literal's form is known.
+pub fn form_known(t: u8, b: &[u8]) -> bool
+    ensures { λ r. ⌜ r ≡ formKnown (recordOf t (now (b .entry))) ⌝ }
+{
+    if t == 64 {
+        return fields::u8_at(b, 0) <= 4;
+    }
+    true
+}
+
+// Where the fields end. Test 8 asks that the body ends there too.
+pub fn fields_end(t: u8, b: &[u8]) -> usize
+    ensures { λ r. ⌜ r ≡ entryOf (recordOf t (now (b .entry))) .end ⌝ }
+{
+    match records::rank_of(t) {
+        1 => b.len() / 4 * 4,
+        2 => 12,
+        3 => types::end_of(t, b, fields::name_end(b, 0)),
+        4 => constants::end_of(t, b),
+        _ => fields::name_end(b, 0) + 15,
+    }
+}
+
+// Test 9: every name of the record is UTF-8 and holds no zero byte.
+pub fn names_fit(t: u8, b: &[u8]) -> bool
+    ensures { λ r. ⌜ r ≡ every nameFits (namesOf (entryOf (recordOf t (now (b .entry))) .value)) ⌝ }
+{
+    match records::rank_of(t) {
+        1 => true,
+        2 => true,
+        3 => fields::name_fits(b, 0) && types::names_fit(t, b, fields::name_end(b, 0)),
+        4 => true,
+        _ => fields::name_fits(b, 0),
+    }
+}
+
+// Test 10: every field has one of its values.
+pub fn values_fit(t: u8, b: &[u8]) -> bool
+    ensures { λ r. ⌜ r ≡ valuesFit (entryOf (recordOf t (now (b .entry))) .value) ⌝ }
+{
+    match records::rank_of(t) {
+        1 => true,
+        2 => 0 < fields::u32_at(b, 8),
+        3 => types::values_fit(t, b, fields::name_end(b, 0)),
+        4 => constants::values_fit(t, b),
+        _ => globals::values_fit(b, fields::name_end(b, 0)),
+    }
+}
+
+// Test 11: every type and every constant that the record names is among those read so far.
+pub fn read_already(t: u8, b: &[u8], types: usize, constants: usize) -> bool
+    ensures { λ r. ⌜ r ≡ (below types (typesNamed (entryOf (recordOf t (now (b .entry))) .value)) && below constants (constantsNamed (entryOf (recordOf t (now (b .entry))) .value))) ⌝ }
+{
+    match records::rank_of(t) {
+        1 => true,
+        2 => true,
+        3 => types::read_already(t, b, fields::name_end(b, 0), types),
+        4 => constants::read_already(t, b, types, constants),
+        _ => globals::read_already(b, fields::name_end(b, 0), types, constants),
+    }
+}
