@@ -73,14 +73,18 @@ fn nested_structs() -> Vec<u8> {
     sheet
 }
 
-/// 256 scalars with names of 55 bytes that are alike but for the last two: each is compared
-/// with all before it, nearly to its end.
-fn alike_types() -> Vec<u8> {
+/// 256 scalars with names of 55 bytes that are alike but for two, at the front or at the end:
+/// each is compared with all before it, perhaps nearly whole.
+fn alike_types(front: bool) -> Vec<u8> {
     let mut sheet = vec![1, 0, 0, 0, 0, 0];
     for n in 0..=255u8 {
+        let mut name = [b'a'; 55];
+        let at = if front { 0 } else { 53 };
+        name[at] += n / 16;
+        name[at + 1] += n % 16;
         sheet.extend([0, 59, 16, 55]);
-        sheet.extend([b'a'; 53]);
-        sheet.extend([b'a' + n / 16, b'a' + n % 16, 2, 4]);
+        sheet.extend(name);
+        sheet.extend([2, 4]);
     }
     sheet
 }
@@ -110,12 +114,15 @@ fn main() {
         let rate = line.sheet.len() as f64 / time / 1e6;
         println!("{} bytes read in {:.1} us, {rate:.0} MB/s", line.sheet.len(), time * 1e6);
     }
-    let alike = alike_types();
-    assert_eq!(read_sheet(&alike), 0);
-    let time = shortest(50, || {
-        black_box(read_sheet(black_box(&alike)));
-    });
-    println!("{} bytes of types alike read in {:.1} us", alike.len(), time * 1e6);
+    for (front, place) in [(true, "first"), (false, "last")] {
+        let alike = alike_types(front);
+        assert_eq!(read_sheet(&alike), 0);
+        let time = shortest(50, || {
+            black_box(read_sheet(black_box(&alike)));
+        });
+        let bytes = alike.len();
+        println!("{bytes} bytes of types alike but for their {place} bytes read in {:.1} us", time * 1e6);
+    }
     let nested = nested_structs();
     let answer = zeroable(&nested, 200);
     let time = shortest(200, || {
