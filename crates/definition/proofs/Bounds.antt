@@ -1,4 +1,5 @@
--- Numbers read from bytes fit, and a name that passes test 9 is packed into words that the reader takes for a string.
+-- Numbers read from bytes fit, and a name that passes test 9 is packed into words that the reader takes for a string. A packed
+-- word is taken apart into its four octets once (`octets-of`); names go by four bytes at a time, as they are packed.
 use Prim.Native.Nat.{ℕ, suc, zero, _+_, _*_, _/_, _%_, _≤_}
 use mathlib.Core.Path.{_≡_, refl, _∙_}
 use mathlib.Core.List.{List, [], _∷_}

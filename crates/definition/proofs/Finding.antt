@@ -1,4 +1,6 @@
--- Finding a key's id keeps the state sound, and the id found is declared.
+-- Finding a key's id keeps the state sound, and the id found is declared. By induction on the fuel, which is the nesting rank: a
+-- find needs only that every pending id's shape nests deeper (`Over`). A new shape begins, finds its inner type and its length,
+-- and is declared; a new value takes its id, finds its type, and is declared.
 use Prim.Native.Nat.{ℕ, suc, zero, _/_, _%_, _<_, _≤_}
 use mathlib.Core.Path.{_≡_, refl, ap, _∙_, subst}
 use mathlib.Core.Logic.{_⊎_, inl, inr}

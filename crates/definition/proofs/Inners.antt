@@ -1,4 +1,5 @@
--- What a type's fields give: numbers that fit a word, and a shape that names only entries that the type names.
+-- What a type's fields give: numbers that fit a word, and a shape that names only entries that the type names. By cases on the
+-- fields; choices between numbers go by `pick-le` and `pick-for`, and the table of formats by one computed test.
 use Prim.Native.Nat.{ℕ, _*_, _≤_}
 use mathlib.Core.Path.{_≡_, subst, refl}
 use mathlib.Core.List.{List, [], _∷_, List·Memᴰ}

@@ -1,4 +1,5 @@
--- General facts on lists, counts and tables.
+-- General facts on lists, counts and tables: one more element at the end, how often an id is declared or a capability listed, what
+-- a lookup that succeeds or fails says of the table. Nothing here knows a rule.
 use Prim.Native.Nat.{ℕ, suc, zero, _+_, _<_, _≤_, min}
 use mathlib.Core.Path.{_≡_, refl, sym, ap, _∙_}
 use mathlib.Core.Logic.{_⊎_, inl, inr, _≢_}

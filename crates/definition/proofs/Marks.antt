@@ -1,4 +1,5 @@
--- Names and decorations: each is an instruction that the reader takes, on an id that is taken, so the state stays sound.
+-- Names and decorations: each is an instruction that the reader takes (a computed test), on an id that is declared or pending, so the
+-- state stays sound; and each adds to its own section alone.
 use Prim.Native.Nat.{ℕ, _+_, _≤_}
 use mathlib.Core.Path.{_≡_, refl}
 use mathlib.Core.List.{List, [], _∷_, List·Memᴰ, List·Memᴰ·eq-of-singleton}

@@ -1,4 +1,6 @@
--- What holds of the state at every moment, ids that are taken and not yet declared counted, and that every step keeps it.
+-- What holds of the state at every moment (`Sound`), and that every operation on the state keeps it. Ids are counted, not chased: how
+-- often an id is declared, plus how often it is pending, plus 1 if it lies up to the start, is 1 exactly up to the last id. Pending
+-- ids, taken and not yet declared, carry the nesting rank of their shape.
 use Prim.Native.Nat.{ℕ, suc, _+_, _<_, _≤_, min}
 use mathlib.Core.Path.{_≡_, refl, sym, ap, _∙_, subst}
 use mathlib.Core.Logic.{_⊎_, inl, inr}

@@ -1,4 +1,5 @@
--- The record of demand 3 says something: six wrong modules that it turns down, and one that it does not.
+-- The record of demand 3 says something: six wrong modules that it turns down, each by the clause meant for it, and a name that
+-- has no reading without its closing zero.
 use Prim.Native.Nat.{zero}
 use mathlib.Core.Path.{_≡_, refl}
 use mathlib.Core.List.{[], _∷_, List·Memᴰ·head}

@@ -1,4 +1,5 @@
--- What tests and choices say, once they are known to hold.
+-- What tests and choices say, once they are known to hold: of `&&`, of `every`, of `pick`, and of the chains of `unless` and `first`
+-- in which the definition writes its refusals. The crates above use these laws too.
 use Prim.Native.Nat.{ℕ, suc, zero, _≤_}
 use mathlib.Core.Bool.{Bool, true, false, _&&_, Bool·beq}
 use mathlib.Core.List.{List, [], _∷_, List·Memᴰ, List·Memᴰ·cases-cons, List·Memᴰ·not-nil}

@@ -1,4 +1,5 @@
 -- Declaring a constant or a global keeps the state sound: each takes its id, finds what it names, and is declared under that id.
+-- The rules are chains of operations, so each proof is the chain of their lemmas, with `Grew` carrying over what was there before.
 use Prim.Native.Nat.{ℕ, suc, zero, _/_, _%_, _<_, _≤_}
 use mathlib.Core.Path.{_≡_, refl, ap, _∙_}
 use mathlib.Core.Logic.{_⊎_, inl, inr}

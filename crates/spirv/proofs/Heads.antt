@@ -1,4 +1,5 @@
--- An instruction's words from its parts: a head, and what is put behind it.
+-- An instruction's words from its parts: a head, and what is put behind it. The word count in the head is that of the whole, so
+-- the two joined are the instruction's words.
 use Prim.Native.Nat.{ℕ, suc, _+_, _*_, _≤_, _<_}
 use mathlib.Core.Path.{_≡_, refl, ap, subst}
 use mathlib.Core.List.{List, [], _∷_, _++_}

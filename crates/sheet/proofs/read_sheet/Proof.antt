@@ -1,4 +1,5 @@
--- The loop's laws at each way out and at a turn: what the callees ensure is brought to the form of the laws.
+-- The invariant (`Holds`): the rest of the sheet, from here and with what is held, comes to what the whole comes to; the measure is
+-- what is left of the sheet. Each way out and the turn is one law of `Turn`, to whose form what the callees ensure is brought.
 use Prim.Native.Nat.{_-_}
 use mathlib.Core.Path.{_≡_, ap, sym, _∙_}
 use native.Mathlib.Omega.{arith}

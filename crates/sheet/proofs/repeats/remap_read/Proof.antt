@@ -1,4 +1,5 @@
--- What is left of the entries answers for all; a group or a binding that differs makes an entry another.
+-- The invariant: what is left of the entries answers for all of them. A group or a binding that differs makes an entry another, and
+-- the loop goes on; where neither differs, the entry is the one that was looked for.
 use Prim.Native.Nat.{ℕ, _-_, _≤_}
 use mathlib.Core.List.{List, map}
 use mathlib.Core.Path.{_≡_, refl, ap, sym, _∙_}
