@@ -11,6 +11,7 @@ pub mod Types
 pub mod Values
 pub mod Bounds
 pub mod Passing
+pub mod Walk
 pub mod Records
 pub mod Reading
 pub mod Capabilities

@@ -173,3 +173,23 @@ element-snoc (x ∷ xs) a b (suc h) e = go (element-snoc xs a b h e)
     go : (getElem? xs h ≡ some b) ⊎ ((h ≡ length xs) × (a ≡ b)) → (getElem? (x ∷ xs) (suc h) ≡ some b) ⊎ ((suc h ≡ suc (length xs)) × (a ≡ b))
     go (inl p) = inl p
     go (inr p) = inr (ap suc (p .0), p .1)
+
+-- ---- a table with one more entry
+
+pub table-bounded : {K : Type 0} (xs : List (K × ℕ)) (k₀ : K) (id B : ℕ) → ((k : K) (i : ℕ) → List·Memᴰ (k, i) xs → i ≤ B) → id ≤ B → (k : K) (i : ℕ) → List·Memᴰ (k, i) (xs ++ (k₀, id) ∷ []) → i ≤ B
+table-bounded {K} xs k₀ id B h l k i m = go (snoc-cases xs m)
+  where
+    go : List·Memᴰ (k, i) xs ⊎ (Path (K × ℕ) (k, i) (k₀, id)) → i ≤ B
+    go (inl n) = h k i n
+    go (inr q) = let e : i ≡ id = ap (λ (y : K × ℕ). y .1) q in omega arith
+
+-- a key that was not there has one id
+pub table-unique : {K : Type 0} (xs : List (K × ℕ)) (k₀ : K) (id : ℕ) → ((k : K) (i j : ℕ) → List·Memᴰ (k, i) xs → List·Memᴰ (k, j) xs → i ≡ j) → ((i : ℕ) → List·Memᴰ (k₀, i) xs → ⊥)
+    → (k : K) (i j : ℕ) → List·Memᴰ (k, i) (xs ++ (k₀, id) ∷ []) → List·Memᴰ (k, j) (xs ++ (k₀, id) ∷ []) → i ≡ j
+table-unique {K} xs k₀ id h new k i j m n = go (snoc-cases xs m) (snoc-cases xs n)
+  where
+    go : List·Memᴰ (k, i) xs ⊎ (Path (K × ℕ) (k, i) (k₀, id)) → List·Memᴰ (k, j) xs ⊎ (Path (K × ℕ) (k, j) (k₀, id)) → i ≡ j
+    go (inl a) (inl b) = h k i j a b
+    go (inl a) (inr q) = absurd (new i (rw (ap (λ (y : K × ℕ). y .0) q) at a))
+    go (inr q) (inl b) = absurd (new j (rw (ap (λ (y : K × ℕ). y .0) q) at b))
+    go (inr q) (inr p) = ap (λ (y : K × ℕ). y .1) q ∙ sym (ap (λ (y : K × ℕ). y .1) p)

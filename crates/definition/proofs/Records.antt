@@ -7,12 +7,12 @@ use mathlib.Core.List.{List, [], _∷_, _++_, List·Memᴰ, List·Memᴰ·head, 
 use mathlib.Core.Option.{some}
 use mathlib.Core.Bool.{Bool, true, false}
 use native.Mathlib.Omega.{arith}
-use lib.Dec.{eqb, leb, leb→le}
+use lib.Dec.{leb, leb→le}
 use lib.ListN.{length, getElem?, drop, length-take, length-drop, length-append}
 use Rattle.definition.specs.Choice.{pick, within}
 use Rattle.definition.specs.Bytes.{u16At}
 use Rattle.definition.specs.Sheet.{Options, Record, TypeEntry, Expression, Global, Remap, Entry, recordAt, afterRecord, headerLength, startOf, flagsOf, optionsOf, entryOf, tagRank, available, remap, type, constant, global}
-use Rattle.definition.specs.Tests.{sheetLeast, sheetMost, headerTest, add, addRecord, noRecord, readingTest, Judged, refused, fit, judge, records, innerTypes}
+use Rattle.definition.specs.Tests.{sheetLeast, sheetMost, headerTest, add, addRecord, readingTest, Judged, refused, fit, judge, records, innerTypes}
 use Rattle.definition.specs.Shapes.{Key, shapeOf}
 use Rattle.definition.specs.State.{State, boundOf}
 use Rattle.definition.specs.Rules.{noEntry, declareEntry, declareType, declareConstant, declareGlobal}
@@ -27,6 +27,7 @@ use Rattle.definition.proofs.Inners.{GoodInner, GoodTypes}
 use Rattle.definition.proofs.Types.{Told, told-more, type-done}
 use Rattle.definition.proofs.Values.{Referring, GoodRemaps, Read, read-more, global-kept, constant-kept}
 use Rattle.definition.proofs.Bounds.{under-take, under-drop}
+use Rattle.definition.proofs.Walk.{records-kept}
 use Rattle.definition.proofs.Passing.{GoodEntry, GoodType, GoodConstant, GoodVariable, reading-passed, entry-good}
 
 remaps-snoc : (ms : List Remap) (m : Remap) → GoodRemaps ms → m .size ≤ W → GoodRemaps (ms ++ m ∷ [])
@@ -124,26 +125,21 @@ record-kept start o p r t u few h =
     let a = first-passed (readingTest (p .seen) r) (fitnessTest (p .seen) (p .state) (entryOf r .value)) t in
     entry-kept start o (tagRank (r .tag)) p (entryOf r .value) (entry-good r u few (p .seen) (reading-passed (p .seen) r (a .0))) h
 
--- ---- all records: what each keeps, they keep
-
-module _ {S : Type 0} (test : S → Record → ℕ) (step : S → Record → S) (Inv : S → Type 0)
-    (kept : (s : S) (r : Record) → test s r ≡ 0 → Under 255 (r .body) → length (r .body) ≤ 16384 → Inv s → Inv (step s r)) where
-  pub records-kept : (fuel : ℕ) (rest : List ℕ) (s q : S) → Under 255 rest → length rest ≤ 16384 → Inv s → records test step fuel rest s ≡ fit q → Inv q
-  unfolding records recordAt afterRecord
-  records-kept zero rest s q u few h e = subst Inv (let f : fit s ≡ fit q = e in cc) h
-  records-kept (suc fuel) rest s q u few h e =
-      go (eqb (length rest) 0) (noRecord rest) (test s (recordAt rest)) refl e
-      (λ t. records-kept fuel (drop (2 + u16At rest 0) rest) (step s (recordAt rest)) q (under-drop 255 (2 + u16At rest 0) rest u) (omega (arith, length-drop (2 + u16At rest 0) rest))
-      (kept s (recordAt rest) t (under-take 255 (u16At rest 0 - 1) (drop 3 rest) (under-drop 255 3 rest u)) (omega (arith, length-take (u16At rest 0 - 1) (drop 3 rest), length-drop 3 rest)) h))
-    where
-      go : (a b : Bool) (n : ℕ) → test s (recordAt rest) ≡ n → pick a (fit s) (pick b (refused 4) (judge n (records test step fuel (drop (2 + u16At rest 0) rest) (step s (recordAt rest))))) ≡ fit q
-          → (test s (recordAt rest) ≡ 0 → records test step fuel (drop (2 + u16At rest 0) rest) (step s (recordAt rest)) ≡ fit q → Inv q) → Inv q
-      go true b n t e f = subst Inv (let g : fit s ≡ fit q = e in cc) h
-      go false true n t e f = let g : refused 4 ≡ fit q = e in let z : _≡_ {A = ℕ} 0 1 = cc in absurd (omega arith)
-      go false false zero t e f = f t e
-      go false false (suc n) t e f = let g : refused (suc n) ≡ fit q = e in let z : _≡_ {A = ℕ} 0 1 = cc in absurd (omega arith)
-
 -- ---- a sheet that is fit
+
+-- what is left of a sheet: bytes, and no more than a sheet may have
+record Left (rest : List ℕ) : Type 0 where
+  bytes : Under 255 rest
+  few : length rest ≤ 16384
+
+left-behind : (rest : List ℕ) → Left rest → Left (afterRecord rest)
+unfolding afterRecord
+left-behind rest l = record { bytes = under-drop 255 (2 + u16At rest 0) rest (l .bytes); few = omega (arith, l .few, length-drop (2 + u16At rest 0) rest) }
+
+left-kept : (start : ℕ) (o : Options) (rest : List ℕ) (p : Progress) → Left rest → recordTest p (recordAt rest) ≡ 0 → Good start p → Good start (declareRecord o p (recordAt rest))
+unfolding recordAt
+left-kept start o rest p l t h =
+    record-kept start o p (recordAt rest) t (under-take 255 (u16At rest 0 - 1) (drop 3 rest) (under-drop 255 3 rest (l .bytes))) (omega (arith, l .few, length-take (u16At rest 0 - 1) (drop 3 rest), length-drop 3 rest)) h
 
 under-bytes : (s : List ℕ) → IsBytes s → Under 255 s
 under-bytes [] h = tt
@@ -164,8 +160,8 @@ fit-sheet s bytes p e = outer (headerTest s) refl (records recordTest (declareRe
 
     all : headerTest s ≡ 0 → (q : Progress) → records recordTest (declareRecord (optionsOf (flagsOf s))) (length s) (drop headerLength s) (begin (startOf s)) ≡ fit q → Good (startOf s) q
     all t q f =
-        records-kept recordTest (declareRecord (optionsOf (flagsOf s))) (Good (startOf s)) (record-kept (startOf s) (optionsOf (flagsOf s))) (length s) (drop headerLength s) (begin (startOf s)) q
-        (under-drop 255 headerLength s (under-bytes s bytes)) (omega (arith, length-drop headerLength s, size t)) (begin-good (startOf s)) f
+        records-kept recordTest (declareRecord (optionsOf (flagsOf s))) (Good (startOf s)) Left left-behind (left-kept (startOf s) (optionsOf (flagsOf s))) (length s) (drop headerLength s) (begin (startOf s)) q
+        (record { bytes = under-drop 255 headerLength s (under-bytes s bytes); few = omega (arith, length-drop headerLength s, size t) }) (begin-good (startOf s)) f
 
     bound : (q : Progress) (b : Bool) → leb (boundOf (q .state)) boundMost ≡ b → pick b (fit q) (refused 15) ≡ fit p → Good (startOf s) q → FitSheet s p
     bound q true l f g =

@@ -2,7 +2,7 @@
 -- often an id is declared, plus how often it is pending, plus 1 if it lies up to the start, is 1 exactly up to the last id. Pending
 -- ids, taken and not yet declared, carry the nesting rank of their shape.
 use Prim.Native.Nat.{ℕ, suc, _+_, _<_, _≤_, min}
-use mathlib.Core.Path.{_≡_, refl, sym, ap, _∙_, subst}
+use mathlib.Core.Path.{_≡_, refl, sym, ap, subst}
 use mathlib.Core.Logic.{_⊎_, inl, inr}
 use mathlib.Core.List.{List, [], _∷_, _++_, List·Memᴰ, List·Memᴰ·head, List·Memᴰ·tail, List·Memᴰ·not-nil, List·Memᴰ·cases-cons, List·Memᴰ·append-cases, Memᴰ·append-left}
 use mathlib.Core.Option.{Option, some, none}
@@ -15,7 +15,7 @@ use Rattle.definition.specs.Reader.{uses}
 use Rattle.definition.specs.Shapes.{Kind, Shape, Key, inner, sized, rankOf, typeOf, entry, shape}
 use Rattle.definition.specs.State.{Valued, Constants, State, same, occurrences, takeId, enter, withConstants, annotate, label, declare, declareWith, empty}
 use Rattle.definition.specs.WellDeclared.{times, once, Above, NoTwins, Twins, needs, needed, plainType, targets, marks}
-use Rattle.definition.proofs.Lists.{targets-append, snoc-cases, same-itself, upTo, upTo-in, upTo-out, upTo-suc, times-snoc, times-in, above-snoc, twins-snoc, listed-count, needed-snoc}
+use Rattle.definition.proofs.Lists.{targets-append, snoc-cases, same-itself, upTo, upTo-in, upTo-out, upTo-suc, times-snoc, times-in, above-snoc, twins-snoc, listed-count, needed-snoc, table-bounded, table-unique}
 use Rattle.definition.proofs.Sizes.{Sized, sized-up, SmallKind}
 use Rattle.definition.proofs.ByShape.{FitsIn, FitsLength, Formed, facts}
 
@@ -201,8 +201,8 @@ module _ (start : ℕ) where
     caps = g .caps;
     names = g .names;
     annotations = g .annotations;
-    bounded = λ k i m. bounded k i (snoc-cases (s .types) m);
-    unique = λ k i j m n. unique k i j (snoc-cases (s .types) m) (snoc-cases (s .types) n);
+    bounded = table-bounded (s .types) (shape l) (suc (s .last)) (suc (s .last)) (g .bounded) (omega arith);
+    unique = table-unique (s .types) (shape l) (suc (s .last)) (h .unique) new;
     injective = λ a b i m n. injective a b i (snoc-cases (s .types) m) (snoc-cases (s .types) n);
     handles = λ k i m. handles k i (snoc-cases (s .types) m);
     settled = λ a i m. settled a i (snoc-cases (s .types) m);
@@ -219,16 +219,6 @@ module _ (start : ℕ) where
 
       g : Sound start ((rankOf l, suc (s .last)) ∷ P) (takeId s)
       g = take-sound (rankOf l) P s h
-
-      bounded : (k : Key) (i : ℕ) → List·Memᴰ (k, i) (s .types) ⊎ (Path (Key × ℕ) (k, i) e) → i ≤ suc (s .last)
-      bounded k i (inl m) = g .bounded k i m
-      bounded k i (inr q) = let q′ : i ≡ suc (s .last) = ap (λ (y : Key × ℕ). y .1) q in omega arith
-
-      unique : (k : Key) (i j : ℕ) → List·Memᴰ (k, i) (s .types) ⊎ (Path (Key × ℕ) (k, i) e) → List·Memᴰ (k, j) (s .types) ⊎ (Path (Key × ℕ) (k, j) e) → i ≡ j
-      unique k i j (inl m) (inl n) = h .unique k i j m n
-      unique k i j (inl m) (inr q) = absurd (new i (rw (ap (λ (y : Key × ℕ). y .0) q) at m))
-      unique k i j (inr q) (inl n) = absurd (new j (rw (ap (λ (y : Key × ℕ). y .0) q) at n))
-      unique k i j (inr q) (inr q′) = ap (λ (y : Key × ℕ). y .1) q ∙ sym (ap (λ (y : Key × ℕ). y .1) q′)
 
       injective : (a b : Shape) (i : ℕ) → List·Memᴰ (shape a, i) (s .types) ⊎ (Path (Key × ℕ) (shape a, i) e) → List·Memᴰ (shape b, i) (s .types) ⊎ (Path (Key × ℕ) (shape b, i) e) → a ≡ b
       injective a b i (inl m) (inl n) = h .injective a b i m n
@@ -259,8 +249,8 @@ module _ (start : ℕ) where
     caps = h .caps;
     names = h .names;
     annotations = h .annotations;
-    bounded = λ k i m. bounded k i (snoc-cases (s .types) m);
-    unique = λ k i j m n. unique k i j (snoc-cases (s .types) m) (snoc-cases (s .types) n);
+    bounded = table-bounded (s .types) (entry k) id (s .last) (h .bounded) low;
+    unique = table-unique (s .types) (entry k) id (h .unique) new;
     injective = λ a b i m n. h .injective a b i (back a i (snoc-cases (s .types) m)) (back b i (snoc-cases (s .types) n));
     handles = λ k i m. handles k i (snoc-cases (s .types) m);
     settled = λ a i m. settled a i (h .settled a i (back a i (snoc-cases (s .types) m)));
@@ -271,16 +261,6 @@ module _ (start : ℕ) where
     where
       e : Key × ℕ
       e = (entry k, id)
-
-      bounded : (k : Key) (i : ℕ) → List·Memᴰ (k, i) (s .types) ⊎ (Path (Key × ℕ) (k, i) e) → i ≤ s .last
-      bounded k i (inl m) = h .bounded k i m
-      bounded k i (inr q) = let q′ : i ≡ id = ap (λ (y : Key × ℕ). y .1) q in omega arith
-
-      unique : (k : Key) (i j : ℕ) → List·Memᴰ (k, i) (s .types) ⊎ (Path (Key × ℕ) (k, i) e) → List·Memᴰ (k, j) (s .types) ⊎ (Path (Key × ℕ) (k, j) e) → i ≡ j
-      unique k i j (inl m) (inl n) = h .unique k i j m n
-      unique k i j (inl m) (inr q) = absurd (new i (rw (ap (λ (y : Key × ℕ). y .0) q) at m))
-      unique k i j (inr q) (inl n) = absurd (new j (rw (ap (λ (y : Key × ℕ). y .0) q) at n))
-      unique k i j (inr q) (inr q′) = ap (λ (y : Key × ℕ). y .1) q ∙ sym (ap (λ (y : Key × ℕ). y .1) q′)
 
       back : (a : Shape) (i : ℕ) → List·Memᴰ (shape a, i) (s .types) ⊎ (Path (Key × ℕ) (shape a, i) e) → List·Memᴰ (shape a, i) (s .types)
       back a i (inl m) = m

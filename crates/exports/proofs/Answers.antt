@@ -1,30 +1,27 @@
 -- What the code's answers are of the definition's: by cases on the reading.
-use Prim.Native.Nat.{ℕ, suc, zero, _≤_, _<_}
-use mathlib.Core.Bool.{Bool, true, false}
-use mathlib.Core.List.{List, map}
+use Prim.Native.Nat.{ℕ, suc, zero, _≤_}
+use mathlib.Core.List.{List}
 use mathlib.Core.Path.{_≡_, refl, sym, ap, _∙_, subst}
 use native.Mathlib.Omega.{arith}
 use lib.Dec.{ltb}
-use lib.ListN.{length, take, getD, replicate, length-take, length-map}
+use lib.ListN.{length, getD, replicate}
 use Rattle.definition.specs.Choice.{pick}
 use Rattle.definition.specs.Sheet.{TypeEntry}
 use Rattle.definition.specs.Tests.{Seen, Judged}
 use Rattle.definition.specs.Zeroable.{zeroable}
-use Rattle.records.specs.Places.{Places, typeFrom, Few}
+use Rattle.records.specs.Places.{Places, Few}
 use Rattle.records.specs.declared.Counts.{Counts}
 use Rattle.sheet.specs.Reading.{judgedOf, Limited}
 use Rattle.sheet.specs.declared.Reading.{Reading}
 use Rattle.sheet.specs.declared.Reading.the-variants.{Read, Refused}
 use Rattle.zeroable.specs.Memo.{typesFrom, Memo}
+use Rattle.zeroable.proofs.Kept.{empty}
+use Rattle.zeroable.proofs.Order.{count}
 use Rattle.exports.specs.Numbers.{readingNumber, refusalOf, flagOf, zeroableNumber, zeroableIn}
 
 pub refusal-told : (s : List ℕ) (p : Places) (r : Reading) (j : Judged Seen) → judgedOf s p r ≡ j → readingNumber r ≡ refusalOf j
 refusal-told s p (Read k) j e = ap refusalOf e
 refusal-told s p (Refused n) j e = ap refusalOf e
-
--- the places are as many as the types that were read
-count : (s ts : List ℕ) (n : ℕ) → n ≤ length ts → length (typesFrom s ts n) ≡ n
-count s ts n l = length-map (take n ts) (typeFrom s) ∙ omega (arith, length-take n ts)
 
 pub zeroable-told : (s : List ℕ) (p : Places) (r : Reading) (j : Judged Seen) (i : ℕ) → judgedOf s p r ≡ j → 256 ≤ length (p .types) → Limited r → zeroableNumber s (p .types) r i ≡ zeroableIn j i
 zeroable-told s p (Read k) j i e l few =
@@ -44,9 +41,5 @@ zeros zero k = refl
 zeros (suc n) zero = refl
 zeros (suc n) (suc k) = zeros n k
 
-pub fresh-memo : (ts : List TypeEntry) (n : ℕ) (m : List ℕ) → m ≡ replicate n 0 → Memo ts m
-fresh-memo ts n m e = record {
-  yes = λ k q. absurd (omega (arith, ap (λ (x : List ℕ). getD x k 0) e, zeros n k));
-  no = λ k q. absurd (omega (arith, ap (λ (x : List ℕ). getD x k 0) e, zeros n k));
-  fresh = λ k l. ap (λ (x : List ℕ). getD x k 0) e ∙ zeros n k;
-}
+pub fresh-memo : (ts : List TypeEntry) (n : ℕ) → Memo ts (replicate n 0)
+fresh-memo ts n = empty ts (replicate n 0) (zeros n)

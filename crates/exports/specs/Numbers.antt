@@ -1,6 +1,5 @@
 -- Answers as numbers, for callers that know no enum of Rattle's.
 use Prim.Native.Nat.{ℕ}
-use mathlib.Core.Bool.{Bool, true, false}
 use mathlib.Core.List.{List}
 use lib.Dec.{ltb}
 use lib.ListN.{length}

@@ -1,12 +1,12 @@
 -- A chain of tests in the code against the chain of `unless` and `first` in the definition: for each form of test one law
 -- where it stops the chain and one where the chain goes on. `search` over these laws closes each return of a chain.
 use Prim.Native.Nat.{ℕ, zero, suc, _<_, _≤_}
-use mathlib.Core.Path.{_≡_, refl, sym, subst}
+use mathlib.Core.Path.{_≡_, refl}
 use mathlib.Core.Bool.{Bool, true, false, not, _&&_, and-false}
 use native.Mathlib.Omega.{arith}
 use borrow.Author.Tests.{not-true, not-false, eq-eqb, ne-eqb, lt-ltb, lt-leb, le-leb, le-ltb}
-use lib.Dec.{T, eqb, ltb}
-use Rattle.definition.specs.Choice.{pick, unless, first, within}
+use lib.Dec.{eqb, ltb}
+use Rattle.definition.specs.Choice.{unless, first, within}
 
 pub stop : (r s : Bool) (n x : ℕ) → r ≡ s → not r ≡ true → n ≡ unless s n x
 stop r s n x e h = simp (← e, not-true r h)

@@ -1,15 +1,13 @@
 -- The loop over the records, for any state: what is left, judged from the state held now, is what the whole sheet is
 -- judged to be. A law for each way out of the loop (the end, test 4, a refusal) and one for a turn.
 use Prim.Native.Nat.{ℕ, zero, suc, _+_, _-_, _≤_, _<_}
-use mathlib.Core.Path.{_≡_, refl, ap, sym, _∙_, subst}
-use mathlib.Core.Bool.{Bool, true, false}
+use mathlib.Core.Path.{_≡_, refl, ap, sym, _∙_}
+use mathlib.Core.Bool.{true, false}
 use mathlib.Core.List.{List}
 use native.Mathlib.Omega.{arith}
 use borrow.Author.Tests.{eq-eqb, ne-eqb}
-use lib.Dec.{eqb}
 use lib.ListN.{length, drop, length-drop}
 use Rattle.definition.specs.Bytes.{u16At}
-use Rattle.definition.specs.Choice.{pick}
 use Rattle.definition.specs.Sheet.{Record, recordAt, afterRecord}
 use Rattle.definition.specs.Tests.{Judged, judge, noRecord, records}
 use Rattle.definition.specs.Tests.Judged.{fit, refused}
@@ -85,28 +83,3 @@ module _ {S : Type 0} (test : S → Record → ℕ) (step : S → Record → S) 
               same = h .same ∙ k .2 ∙ judge-go _ _ z ∙ ap (λ (r : List ℕ). records test step (k .0) r (step n (recordAt left))) (sym (behind s at));
               inside = next-inside;
             }
-
--- ---- what holds at the start, and is kept by each record that passes its test, holds at the end
-
-fit-is : {S : Type 0} (P : S → Type 0) (n m : S) → P n → fit n ≡ fit m → P m
-fit-is P n m h e = let q : n ≡ m = cc in subst P q h
-
-never-fit : {S : Type 0} (r : ℕ) (m : S) → refused r ≡ fit m → ⊥
-never-fit r m e = let z : _≡_ {A = ℕ} 0 1 = cc in omega arith
-
-module _ {S : Type 0} (test : S → Record → ℕ) (step : S → Record → S) (P : S → Type 0) where
-  past : (end none : Bool) (here : ℕ) (later : Judged S) (n m : S) → P n → (here ≡ 0 → later ≡ fit m → P m)
-      → pick end (fit n) (pick none (refused 4) (judge here later)) ≡ fit m → P m
-  past true none here later n m h k e = fit-is P n m h e
-  past false true here later n m h k e = absurd (never-fit 4 m e)
-  past false false zero later n m h k e = k refl e
-  past false false (suc here) later n m h k e = absurd (never-fit (suc here) m e)
-
-  pub kept : ((n : S) (r : Record) → P n → test n r ≡ 0 → P (step n r))
-      → (fuel : ℕ) (rest : List ℕ) (n m : S) → P n → records test step fuel rest n ≡ fit m → P m
-  unfolding records
-  kept keep zero rest n m h e = fit-is P n m h e
-  kept keep (suc fuel) rest n m h e =
-      let r = recordAt rest in
-      past (eqb (length rest) 0) (noRecord rest) (test n r) (records test step fuel (afterRecord rest) (step n r)) n m h
-      (λ z q. kept keep fuel (afterRecord rest) (step n r) m (keep n r h z) q) e

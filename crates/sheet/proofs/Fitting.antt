@@ -1,6 +1,6 @@
 -- What a sheet that is read tells of its entries: each passed tests 10 and 11, so its fields have their values, and it
 -- names only what stands before it. Kept by each record that passes its tests.
-use Prim.Native.Nat.{ℕ, zero, suc, _+_, _≤_, _<_}
+use Prim.Native.Nat.{ℕ, zero, suc, _≤_, _<_}
 use mathlib.Core.Path.{_≡_, refl}
 use mathlib.Core.Bool.{true}
 use mathlib.Core.List.{List, [], _∷_, _++_}
@@ -13,10 +13,10 @@ use lib.ListN.{length, getD, drop, length-append, List·getD-append}
 use lib.Seq.{getD-append-seam}
 use Rattle.definition.specs.Choice.{every}
 use Rattle.definition.specs.Utf8.{nameFits}
-use Rattle.definition.specs.Sheet.{Record, entryOf, Entry, TypeEntry, Expression, Global, available, remap, type, constant, global, tagRank}
+use Rattle.definition.specs.Sheet.{Record, entryOf, Entry, TypeEntry, Expression, Global, available, remap, type, constant, global, tagRank, recordAt}
 use Rattle.definition.specs.Tests.{Seen, Judged, fit, nothing, add, addRecord, formKnown, namesOf, valuesFit, readAlready, entryTest, readingTest, placeTest, readSheet, judge, headerTest, below, innerFits, innerTypes, expressionFits, expressionTypes, expressionConstants, initList}
 use Rattle.definition.proofs.Truth.{both, unless-zero, first-passed}
-use Rattle.records.proofs.Loop.{kept}
+use Rattle.definition.proofs.Walk.{records-kept}
 
 -- P holds of each element and its index
 abbrev pub Each : {A : Type 0} → (ℕ → A → Type 0) → List A → Type 0
@@ -119,4 +119,4 @@ judge-fit (suc h) w m e = absurd (let z : _≡_ {A = ℕ} 0 1 = cc in omega arit
 -- what a sheet comes to that passes tests 1 to 12
 pub read-fits : (s : List ℕ) (n : Seen) → readSheet s ≡ fit n → Fitting n
 unfolding readSheet
-read-fits s n e = kept readingTest addRecord Fitting adds-record (length s) (drop 6 s) nothing n none-read (judge-fit (headerTest s) _ n e)
+read-fits s n e = records-kept readingTest addRecord Fitting (λ _. Unit) (λ _ _. tt) (λ rest m _ t h. adds-record m (recordAt rest) h t) (length s) (drop 6 s) nothing n tt none-read (judge-fit (headerTest s) _ n e)

@@ -1,14 +1,11 @@
 -- Small laws on tests, and what a type that is no struct has not: names and types of members.
-use Prim.Native.Nat.{ℕ, zero, suc, _+_}
-use mathlib.Core.Path.{_≡_, refl, ap, sym, _∙_}
-use mathlib.Core.Bool.{Bool, true, false, _&&_}
+use Prim.Native.Nat.{ℕ, zero, suc}
+use mathlib.Core.Path.{_≡_, refl, sym, _∙_}
 use mathlib.Core.List.{List, []}
 use native.Mathlib.Omega.{arith}
 use borrow.Author.Tests.{ne-eqb, lt-leb}
 use lib.Dec.{eqb, leb}
-use lib.ListN.{length}
-use Rattle.definition.specs.Bytes.{nameEnd}
-use Rattle.definition.specs.Sheet.{TypeInner, Fields, typeFields, membersAt}
+use Rattle.definition.specs.Sheet.{TypeInner, Fields, typeFields}
 use Rattle.definition.specs.Tests.{innerNames}
 use Rattle.definition.proofs.Truth.{pick-for}
 

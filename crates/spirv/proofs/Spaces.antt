@@ -1,5 +1,4 @@
 -- A space's storage class, where the code has told which space it is.
-use Prim.Native.Nat.{ℕ}
 use mathlib.Core.Path.{_≡_, sym, ap}
 use Rattle.kinds.specs.declared.AddressSpace.{AddressSpace}
 use Rattle.definition.specs.Shapes.{storageClass}

@@ -67,12 +67,13 @@ before ts us k lt = ap (λ (l : List Bool). getD l k false) (split ts us []) ∙
 
 -- ---- a type among those at the places
 
+-- the types are as many as the places that are taken
+pub count : (s types : List ℕ) (n : ℕ) → n ≤ length types → length (typesFrom s types n) ≡ n
+count s types n room = length-map (take n types) (typeFrom s) ∙ length-take-le n types room
+
 module _ (s types : List ℕ) (n i : ℕ) (room : n ≤ length types) (lt : i < n) where
   abbrev ts : List TypeEntry
   ts = typesFrom s types n
-
-  pub count : length (typesFrom s types n) ≡ n
-  count = length-map (take n types) (typeFrom s) ∙ length-take-le n types room
 
   get-map : (os : List ℕ) (k : ℕ) (d : TypeEntry) → k < length os → getD (map (typeFrom s) os) k d ≡ typeFrom s (getD os k 0)
   get-map [] k d h = absurd (not-suc-le-zero h)
@@ -82,7 +83,7 @@ module _ (s types : List ℕ) (n i : ℕ) (room : n ≤ length types) (lt : i < 
   pub one : zeroable ts i ≡ zeroableOver (partZeroable ts i) (typeFrom s (getD types i 0) .inner)
   unfolding zeroable
   one =
-      flag ts [] i i (typeFrom s 0) (rw count lt) (omega arith)
+      flag ts [] i i (typeFrom s 0) (rw (count s types n room) lt) (omega arith)
       ∙ ap (λ (t : TypeEntry). zeroableOver (partZeroable ts i) (t .inner)) (get-map (take n types) i (typeFrom s 0) (rw (length-take-le n types room) lt) ∙ ap (typeFrom s) (getD-take n types i 0 lt))
 
   -- the same, of the tag, the body and the name's end that the program has read

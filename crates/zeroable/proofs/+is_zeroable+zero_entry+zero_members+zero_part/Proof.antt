@@ -128,7 +128,7 @@ is-zeroable-returns-3 t c =
     let a = st .args in
     let z = c .before .before .before .before .before .before .zero-entry .ensures in
     let ts = typesFrom (now (a .s)) (now (a .types)) (a .n) in
-    let lt : a .i < length ts = rw (count (now (a .s)) (now (a .types)) (a .n) (a .i) (st .pre .1 .0) (st .pre .1 .1 .0)) (st .pre .1 .1 .0) in
+    let lt : a .i < length ts = rw (count (now (a .s)) (now (a .types)) (a .n) (st .pre .1 .0)) (st .pre .1 .1 .0) in
     (z .0, kept ts _ (a .i) (z .1) lt _ _ (z .0) (c .before .before .keep .ensures))
 
 -- the type by the tag, the body and the name's end that were read
