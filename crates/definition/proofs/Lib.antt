@@ -18,3 +18,5 @@ pub mod Capabilities
 pub mod Same
 pub mod Demand
 pub mod Teeth
+pub mod Words
+pub mod Answers

@@ -13,6 +13,7 @@ pub mod Finding
 pub mod Rules
 pub mod Unfit
 pub mod Operations
+pub mod Answered
 pub mod Reader
 pub mod WellDeclared
 pub mod Examples

@@ -47,6 +47,7 @@ pub struct StructMember {
 pub fn member_at(b: &[u8], p: usize) -> StructMember
     requires { ⌜ p < 2 ^ 32 ⌝ }
     ensures { λ r. ⌜ MemberAt (now (b .entry)) p r ⌝ }
+    ensures { λ r. ⌜ r .next < p + 300 ⌝ }
 {
     StructMember {
         ty: fields::u16_at(b, p),

@@ -9,14 +9,14 @@ use Rattle.definition.specs.Choice.{pick}
 use Rattle.definition.specs.Sheet.{TypeEntry}
 use Rattle.definition.specs.Tests.{Seen, Judged}
 use Rattle.definition.specs.Zeroable.{zeroable}
-use Rattle.records.specs.Places.{Places, Few}
+use Rattle.records.specs.Places.{Places, Few, typesFrom}
+use Rattle.records.proofs.Types.{count}
 use Rattle.records.specs.declared.Counts.{Counts}
 use Rattle.sheet.specs.Reading.{judgedOf, Limited}
 use Rattle.sheet.specs.declared.Reading.{Reading}
 use Rattle.sheet.specs.declared.Reading.the-variants.{Read, Refused}
-use Rattle.zeroable.specs.Memo.{typesFrom, Memo}
+use Rattle.zeroable.specs.Memo.{Memo}
 use Rattle.zeroable.proofs.Kept.{empty}
-use Rattle.zeroable.proofs.Order.{count}
 use Rattle.exports.specs.Numbers.{readingNumber, refusalOf, flagOf, zeroableNumber, zeroableIn}
 
 pub refusal-told : (s : List ℕ) (p : Places) (r : Reading) (j : Judged Seen) → judgedOf s p r ≡ j → readingNumber r ≡ refusalOf j

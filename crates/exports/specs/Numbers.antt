@@ -6,7 +6,7 @@ use lib.ListN.{length}
 use Rattle.definition.specs.Choice.{pick}
 use Rattle.definition.specs.Tests.{Seen, Judged, fit, refused}
 use Rattle.definition.specs.Zeroable.{zeroable}
-use Rattle.zeroable.specs.Memo.{typesFrom}
+use Rattle.records.specs.Places.{typesFrom}
 use Rattle.sheet.specs.declared.Reading.{Reading}
 use Rattle.sheet.specs.declared.Reading.the-variants.{Read, Refused}
 

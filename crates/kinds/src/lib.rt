@@ -1,7 +1,7 @@
 // The cases that document 01 numbers, under the Rust's names (its IR), and how a number is taken for its case.
 ghost use mathlib.Core.Path.{_≡_};
 ghost use mathlib.Core.Bool.{true};
-ghost use Prim.Native.Nat.{_≤_};
+ghost use Prim.Native.Nat.{_≤_, _<_};
 ghost use Rattle.definition.specs.Tests.{spaceFits, classFits};
 ghost use Rattle.kinds.specs.Numbers.{kindNumber, spaceNumber, spaceAccess, dimensionNumber, classNumber, classFirst, classSecond};
 
@@ -58,6 +58,36 @@ pub fn space_of(space: u8, access: u8) -> AddressSpace
         4 => AddressSpace::Storage { access },
         5 => AddressSpace::Handle,
         _ => AddressSpace::PushConstant,
+    }
+}
+
+// The number of a space, the inverse of space_of's first byte.
+pub fn space_number(space: AddressSpace) -> u8
+    ensures { λ r. ⌜ (r ≡ spaceNumber space) × (r < 8) ⌝ }
+{
+    match space {
+        AddressSpace::Function => 0,
+        AddressSpace::Private => 1,
+        AddressSpace::WorkGroup => 2,
+        AddressSpace::Uniform => 3,
+        AddressSpace::Storage { access: _ } => 4,
+        AddressSpace::Handle => 5,
+        AddressSpace::PushConstant => 6,
+    }
+}
+
+// The access byte behind it.
+pub fn space_access(space: AddressSpace) -> u8
+    ensures { λ r. ⌜ r ≡ spaceAccess space ⌝ }
+{
+    match space {
+        AddressSpace::Function => 0,
+        AddressSpace::Private => 0,
+        AddressSpace::WorkGroup => 0,
+        AddressSpace::Uniform => 0,
+        AddressSpace::Storage { access } => access,
+        AddressSpace::Handle => 0,
+        AddressSpace::PushConstant => 0,
     }
 }
 

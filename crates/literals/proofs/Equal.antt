@@ -23,6 +23,9 @@ is-again (u32 n) = refl
 is-again (i32 n) = refl
 is-again (boolean n) = refl
 
+pub same-literal : (x y : Literal) → formOf x ≡ formOf y → bitsOf x ≡ bitsOf y → x ≡ y
+same-literal x y e k = is-again x ∙ ap (again (formOf x)) k ∙ ap (λ (j : ℕ). again j (bitsOf y)) e ∙ sym (is-again y)
+
 decide-yes : {P : Type 0} (d : Dec P) → P → true ≡ decide d
 unfolding decide
 decide-yes (yes p) q = refl
@@ -41,6 +44,5 @@ module _ (x y : Literal) (m n : ℕ) where
   by-bits e p q = told (eqb m n) refl where
     told : (t : Bool) → eqb m n ≡ t → t ≡ decide (sameLiteral x y)
     told true h =
-        let k : bitsOf x ≡ bitsOf y = sym p ∙ eqb-true m n h ∙ q in
-        decide-yes (sameLiteral x y) (is-again x ∙ ap (again (formOf x)) k ∙ ap (λ (j : ℕ). again j (bitsOf y)) e ∙ sym (is-again y))
+        decide-yes (sameLiteral x y) (same-literal x y e (sym p ∙ eqb-true m n h ∙ q))
     told false h = decide-no (sameLiteral x y) (λ g. eqb-false m n h (p ∙ ap bitsOf g ∙ sym q))

@@ -1,3 +1,4 @@
 pub mod Chain
 pub mod Places
 pub mod Loop
+pub mod Types

@@ -29,6 +29,10 @@ typeOf r = typeEntry r (typeFields (r .tag) (r .body) (nameEnd (r .body) 0) .val
 abbrev pub typeFrom : List ℕ → ℕ → TypeEntry
 typeFrom s at = typeOf (recordFrom s at)
 
+-- the first n types, of their places
+abbrev pub typesFrom : List ℕ → List ℕ → ℕ → List TypeEntry
+typesFrom s types n = map (typeFrom s) (take n types)
+
 abbrev pub constantFrom : List ℕ → ℕ → Expression
 constantFrom s at = constantFields (recordFrom s at .tag) (recordFrom s at .body) .value
 
@@ -51,7 +55,7 @@ seenOf s p k = record {
   rank = k .rank;
   available = availableFrom s (k .available);
   remaps = map (remapFrom s) (take (k .remaps) (p .remaps));
-  types = map (typeFrom s) (take (k .types) (p .types));
+  types = typesFrom s (p .types) (k .types);
   constants = map (constantFrom s) (take (k .constants) (p .constants));
   globals = map (globalFrom s) (take (k .globals) (p .globals));
 }

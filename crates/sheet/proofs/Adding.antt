@@ -62,7 +62,7 @@ unfolding readingTest
 placed-of n r h = placed n (r .tag) (first-passed (placeTest n (r .tag)) _ h .0)
 
 -- a rank is at most 5
-rank-most : (t : ℕ) → tagRank t ≤ 5
+pub rank-most : (t : ℕ) → tagRank t ≤ 5
 unfolding tagRank
 rank-most t =
     let P : ℕ → Type 0 = λ r. r ≤ 5 in
@@ -70,7 +70,7 @@ rank-most t =
     (pick-for P (within 64 68 t) _ _ (omega arith) (pick-for P (eqb t 96) _ _ (omega arith) (omega arith)))))
 
 -- what holds of each rank holds of the rank of a tag that has one
-by-rank : (P : ℕ → Type 0) → P 1 → P 2 → P 3 → P 4 → P 5 → (r : ℕ) → 0 < r → r ≤ 5 → P r
+pub by-rank : (P : ℕ → Type 0) → P 1 → P 2 → P 3 → P 4 → P 5 → (r : ℕ) → 0 < r → r ≤ 5 → P r
 by-rank P a b c d e zero l h = absurd (omega arith)
 by-rank P a b c d e (suc zero) l h = a
 by-rank P a b c d e (suc (suc zero)) l h = b
@@ -149,5 +149,6 @@ held s p p′ k k′ at r h er ep ek lr lt lc lg =
     record {
       ample = record { remaps = rw lr (m .remaps); types = rw lt (m .types); constants = rw lc (m .constants); globals = rw lg (m .globals) };
       few = rw ek (a .1);
+      counts = ek ∙ ap (λ (j : ℕ). addCounts k j at) er;
       seen = rw (ep, ek) (a .0);
     }

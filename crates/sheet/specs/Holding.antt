@@ -5,6 +5,7 @@ use mathlib.Core.List.{List}
 use lib.Dec.{eqb}
 use lib.ListN.{set}
 use Rattle.definition.specs.Choice.{pick}
+use Rattle.definition.specs.Sheet.{tagRank}
 use Rattle.definition.specs.Tests.{readingTest, addRecord}
 use Rattle.records.specs.Places.{Places, seenOf, recordFrom, Ample, Few}
 use Rattle.records.specs.declared.Counts.{Counts}
@@ -45,4 +46,5 @@ pub record Passed (s : List ℕ) (p : Places) (k : Counts) (at : ℕ) : Type 0 w
 pub record Held (s : List ℕ) (p : Places) (k : Counts) (at : ℕ) (p′ : Places) (k′ : Counts) : Type 0 where
   pub ample : Ample p′
   pub few : Few k′
+  pub counts : k′ ≡ addCounts k (tagRank (recordFrom s at .tag)) at
   pub seen : seenOf s p′ k′ ≡ addRecord (seenOf s p k) (recordFrom s at)

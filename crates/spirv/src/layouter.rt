@@ -1,6 +1,6 @@
 // Alignments, as far as a matrix's stride needs them.
 ghost use mathlib.Core.Path.{_≡_};
-ghost use Prim.Native.Nat.{_≤_};
+ghost use Prim.Native.Nat.{_<_};
 ghost use Rattle.definition.specs.Rules.{columnAlignment, columnStride};
 
 // A power of two.
@@ -18,9 +18,9 @@ impl Alignment {
     }
 }
 
-// How far apart a matrix's columns are, in bytes.
+// How far apart a matrix's columns are, in bytes; for any width that a byte of the sheet can have.
 pub fn matrix_stride(rows: u32, width: u32) -> u32
-    requires { ⌜ width ≤ 8 ⌝ }
+    requires { ⌜ width < 256 ⌝ }
     ensures { λ r. ⌜ r ≡ columnStride rows width ⌝ }
 {
     let alignment = Alignment::from(rows);

@@ -3,20 +3,21 @@
 use Prim.Native.Nat.{ℕ, zero, suc, _+_, _≤_, _<_}
 use mathlib.Core.Path.{_≡_, refl, ap, sym, _∙_, fun-ext}
 use mathlib.Core.Bool.{Bool, false, _&&_}
-use mathlib.Core.List.{List, [], _∷_, _++_, map}
+use mathlib.Core.List.{List, [], _∷_, _++_}
 use native.Mathlib.Omega.{arith}
 use native.Mathlib.Nat.{not-suc-le-zero}
 use native.Mathlib.Decide.{decLt}
 use borrow.Author.Tests.{lt-ltb, le-ltb, ne-eqb}
 use lib.Dec.{eqb, ltb}
-use lib.ListN.{length, take, drop, getD, length-append, length-map, List·getD-append, List·getD-eq-default}
-use lib.Seq.{getD-take, length-take-le, getD-append-seam}
+use lib.ListN.{length, drop, getD, length-append, List·getD-append, List·getD-eq-default}
+use lib.Seq.{getD-append-seam}
 use Rattle.definition.specs.Bytes.{nameEnd}
 use Rattle.definition.specs.Sheet.{Fields, TypeInner, TypeEntry, typeFields, recordAt}
 use Rattle.definition.specs.Zeroable.{zeroableOver, zeroables, zeroable}
-use Rattle.records.specs.Places.{typeFrom}
+use Rattle.records.specs.Places.{typeFrom, typesFrom}
+use Rattle.records.proofs.Types.{count, placed}
 use Rattle.definition.proofs.Truth.{pick-for}
-use Rattle.zeroable.specs.Memo.{typesFrom, partZeroable}
+use Rattle.zeroable.specs.Memo.{partZeroable}
 
 -- the flags that are there stay
 stay : (ts : List TypeEntry) (done : List Bool) (j : ℕ) → j < length done → getD (zeroables done ts) j false ≡ getD done j false
@@ -67,24 +68,15 @@ before ts us k lt = ap (λ (l : List Bool). getD l k false) (split ts us []) ∙
 
 -- ---- a type among those at the places
 
--- the types are as many as the places that are taken
-pub count : (s types : List ℕ) (n : ℕ) → n ≤ length types → length (typesFrom s types n) ≡ n
-count s types n room = length-map (take n types) (typeFrom s) ∙ length-take-le n types room
-
 module _ (s types : List ℕ) (n i : ℕ) (room : n ≤ length types) (lt : i < n) where
   abbrev ts : List TypeEntry
   ts = typesFrom s types n
-
-  get-map : (os : List ℕ) (k : ℕ) (d : TypeEntry) → k < length os → getD (map (typeFrom s) os) k d ≡ typeFrom s (getD os k 0)
-  get-map [] k d h = absurd (not-suc-le-zero h)
-  get-map (o ∷ os) zero d h = refl
-  get-map (o ∷ os) (suc k) d h = get-map os k d (omega arith)
 
   pub one : zeroable ts i ≡ zeroableOver (partZeroable ts i) (typeFrom s (getD types i 0) .inner)
   unfolding zeroable
   one =
       flag ts [] i i (typeFrom s 0) (rw (count s types n room) lt) (omega arith)
-      ∙ ap (λ (t : TypeEntry). zeroableOver (partZeroable ts i) (t .inner)) (get-map (take n types) i (typeFrom s 0) (rw (length-take-le n types room) lt) ∙ ap (typeFrom s) (getD-take n types i 0 lt))
+      ∙ ap (λ (t : TypeEntry). zeroableOver (partZeroable ts i) (t .inner)) (placed s types n i room lt (typeFrom s 0))
 
   -- the same, of the tag, the body and the name's end that the program has read
   pub by-tag : (rest b : List ℕ) (t at : ℕ) → rest ≡ drop (getD types i 0) s → b ≡ recordAt rest .body → t ≡ recordAt rest .tag → at ≡ nameEnd b 0

@@ -1,19 +1,14 @@
--- The type entries that the program holds, which of them are parts, and what its memo says of them.
+-- Which type entries are parts of one, and what the memo of the program says of them.
 use Prim.Native.Nat.{ℕ, _≤_}
 use mathlib.Core.Path.{_≡_}
 use mathlib.Core.Bool.{Bool, true, false, _&&_}
-use mathlib.Core.List.{List, map}
+use mathlib.Core.List.{List}
 use lib.Dec.{ltb}
-use lib.ListN.{length, take, getD}
+use lib.ListN.{length, getD}
 use Rattle.definition.specs.Choice.{every}
 use Rattle.definition.specs.Sheet.{TypeEntry, membersAt}
 use Rattle.definition.specs.Tests.{memberTypes}
 use Rattle.definition.specs.Zeroable.{zeroable}
-use Rattle.records.specs.Places.{typeFrom}
-
--- the first n types, of their places
-abbrev pub typesFrom : List ℕ → List ℕ → ℕ → List TypeEntry
-typesFrom s types n = map (typeFrom s) (take n types)
 
 -- type j as a part of type i: it stands before it, and is zeroable
 abbrev pub partZeroable : List TypeEntry → ℕ → ℕ → Bool

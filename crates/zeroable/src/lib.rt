@@ -6,7 +6,8 @@ ghost use Prim.Native.Nat.{_+_, _<_, _≤_};
 ghost use lib.ListN.{length, set};
 ghost use Rattle.definition.specs.Bytes.{u8At};
 ghost use Rattle.definition.specs.Zeroable.{zeroable};
-ghost use Rattle.zeroable.specs.Memo.{typesFrom, Memo, memoFlag, partZeroable, zeroMembers};
+ghost use Rattle.records.specs.Places.{typesFrom};
+ghost use Rattle.zeroable.specs.Memo.{Memo, memoFlag, partZeroable, zeroMembers};
 
 // Keeps what was found of type i.
 fn keep(memo: &mut [u8], i: usize, z: bool)

@@ -13,9 +13,11 @@ use Rattle.definition.specs.Zeroable.{zeroable, zeroableOver}
 use Rattle.definition.specs.Sheet.{typeFields}
 use Rattle.definition.specs.Bytes.{u8At}
 use Rattle.sheet_fields.proofs.Each.{each-yes, each-no, each-end, types as walk}
-use Rattle.zeroable.specs.Memo.{typesFrom, partZeroable, zeroMembers, Memo}
+use Rattle.records.specs.Places.{typesFrom}
+use Rattle.records.proofs.Types.{count}
+use Rattle.zeroable.specs.Memo.{partZeroable, zeroMembers, Memo}
 use Rattle.zeroable.proofs.Kept.{kept, said-yes, said-no}
-use Rattle.zeroable.proofs.Order.{by-tag, no-zero, count}
+use Rattle.zeroable.proofs.Order.{by-tag, no-zero}
 use Rattle.zeroable.proofs.+is_zeroable+zero_entry+zero_members+zero_part.{statement}
 use Rattle.zeroable.proofs.+is_zeroable+zero_entry+zero_members+zero_part.Tie.{close}
 use Rattle.zeroable.proofs.is_zeroable.Reads as is-zeroable

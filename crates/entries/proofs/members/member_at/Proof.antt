@@ -1,4 +1,5 @@
--- The first of the members, field by field.
+-- The first of the members, field by field; a name ends within 256 bytes.
+use native.Mathlib.Omega.{arith}
 use borrow.Author.Needs.{needs}
 use Rattle.definition.specs.Sheet.{membersAt}
 use Rattle.entries.proofs.members.member_at.Statement.{statement}
@@ -24,7 +25,7 @@ name-end-requires c κs = search needs
 
 returns : tie.Need-returns
 unfolding membersAt
-returns c = λ k. simp (c .before .before .u16-at .ensures, c .before .u32-at .ensures, c .name-end .ensures .0)
+returns c = (λ k. simp (c .before .before .u16-at .ensures, c .before .u32-at .ensures, c .name-end .ensures .0), omega (arith, c .name-end .ensures .1))
 
 pub member-at-spec : {M : Type 1} → statement M
 member-at-spec =

@@ -1,6 +1,6 @@
--- `matrix_stride` meets its contract. Two or four components of at most 8 bytes are at most 32 bytes, so the product fits; it is
--- the definition's by what `Alignment::from` ensures.
-use Prim.Native.Nat.{ℕ, _*_, _≤_}
+-- `matrix_stride` meets its contract. Two or four components of a width below 256 are less than 1,024 bytes, so the product
+-- fits; it is the definition's by what `Alignment::from` ensures.
+use Prim.Native.Nat.{ℕ, _*_, _<_}
 use mathlib.Core.Path.{ap}
 use mathlib.Core.Bool.{Bool, true, false}
 use native.Mathlib.Omega.{arith}
@@ -10,7 +10,7 @@ use Rattle.definition.specs.Choice.{pick}
 use Rattle.spirv.proofs.layouter.matrix_stride.Statement.{statement}
 use Rattle.spirv.proofs.layouter.matrix_stride.Tie as tie
 
-small : (two : Bool) (width : ℕ) → width ≤ 8 → pick two 2 4 * width ≤ 32
+small : (two : Bool) (width : ℕ) → width < 256 → pick two 2 4 * width < 1024
 small true width h = omega arith
 small false width h = omega arith
 
@@ -20,7 +20,7 @@ from-requires c κs = search needs
 mul-result : tie.Need-mul-result
 mul-result c =
     let a = c .before .before .args in
-    let e : c .before .from .result .0 * a .width ≤ 32 = rw (c .before .from .ensures) (small (eqb (a .rows) 2) (a .width) (omega arith)) in
+    let e : c .before .from .result .0 * a .width < 1024 = rw (c .before .from .ensures) (small (eqb (a .rows) 2) (a .width) (omega arith)) in
     omega (arith, e)
 
 returns : tie.Need-returns

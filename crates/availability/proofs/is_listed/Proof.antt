@@ -1,0 +1,55 @@
+-- The numbers that are left answer as all do; each way out, and each turn, is a law of `Laws`.
+use mathlib.Core.Path.{_∙_, sym, refl}
+use borrow.Author.Needs.{needs}
+use Rattle.availability.proofs.Laws.{Going, starts, found, turn, ended}
+use Rattle.availability.proofs.is_listed.Statement.{statement}
+use Rattle.availability.proofs.is_listed.Tie as tie
+
+abbrev Inv-loop : tie.InvT-loop
+Inv-loop body cap at₀ left₀ at left = Going cap body at left
+
+abbrev μ-loop : tie.MeasureT-loop
+μ-loop body cap at₀ left₀ at left = left
+
+loop-holds : tie.Need-loop-holds Inv-loop μ-loop
+loop-holds c = starts _ _ _ refl
+
+u32-at-requires : tie.Need-u32-at-requires Inv-loop μ-loop
+u32-at-requires c κs = search needs
+
+returns : tie.Need-returns Inv-loop μ-loop
+returns c =
+    let l = c .before .before .before .loop in
+    found _ _ (l .inv) (c .before .before .loop-test .taken) (c .if1 .taken ∙ c .before .u32-at .ensures)
+
+add-at : tie.Need-add-at Inv-loop μ-loop
+add-at c = search needs
+
+sub-left : tie.Need-sub-left Inv-loop μ-loop
+sub-left c = search needs
+
+loop-less : tie.Need-loop-less Inv-loop μ-loop
+loop-less c = search needs
+
+loop-again : tie.Need-loop-again Inv-loop μ-loop
+loop-again c =
+    let l = c .before .before .before .loop in
+    turn _ _ (l .inv) (c .before .before .loop-test .taken) (λ e. c .if1 .left (e ∙ sym (c .before .u32-at .ensures)))
+
+returns-2 : tie.Need-returns-2 Inv-loop μ-loop
+returns-2 c = ended _ _ (c .before .loop .inv) (c .loop-test .left)
+
+pub is-listed-spec : {M : Type 1} → statement M
+is-listed-spec =
+    tie.close
+    (tie.spec
+    Inv-loop
+    μ-loop
+    loop-holds
+    u32-at-requires
+    returns
+    add-at
+    sub-left
+    loop-less
+    loop-again
+    returns-2)

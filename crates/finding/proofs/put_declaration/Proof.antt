@@ -1,0 +1,96 @@
+-- The capabilities are listed in order of use, then the instruction goes behind the declarations (`put-declared`).
+use Rattle.finding.proofs.Ways.{put-declared}
+use Rattle.finding.proofs.Spelling.{type-few}
+use Rattle.finding.specs.Costs.{longer}
+use Rattle.writer.proofs.Words.{adds-count}
+use Rattle.writer.specs.Regions.{declarations}
+use Rattle.lookup.specs.Local.{shapeOf}
+use Rattle.definition.specs.Instructions.{words}
+use Rattle.definition.specs.Shapes.{typeOf}
+use Prim.Native.Nat.{_+_}
+use native.Mathlib.Omega.{arith}
+use borrow.Author.Needs.{needs}
+use Rattle.finding.proofs.put_declaration.Statement.{statement}
+use Rattle.finding.proofs.put_declaration.Tie as tie
+
+capabilities-of-requires : tie.Need-capabilities-of-requires
+capabilities-of-requires c κs = search needs
+
+list-capability-requires : tie.Need-list-capability-requires
+list-capability-requires c κs = search needs
+
+list-capability-requires-2 : tie.Need-list-capability-requires-2
+list-capability-requires-2 c κs = search needs
+
+mul-start : tie.Need-mul-start
+mul-start c = search needs
+
+add-start : tie.Need-add-start
+add-start c = omega (arith, c .before .before .before .before .list-capability2 .ensures .grown, c .before .before .before .before .before .before .before .before .list-capability .ensures .grown, c .before .before .before .before .list-capability2 .kept, c .before .before .before .before .before .before .before .before .list-capability .kept, c .before .before .before .before .before .before .before .before .before .before .before .before .pre .1, c .before .before .before .before .before .before .before .before .before .before .before .before .good, c .before .before .before .before .before .before .before .before .before .before .before .before .fits)
+
+mul-put-shape : tie.Need-mul-put-shape
+mul-put-shape c = omega (arith, c .before .before .before .before .list-capability2 .ensures .grown, c .before .before .before .before .before .before .before .before .list-capability .ensures .grown, c .before .before .before .before .list-capability2 .kept, c .before .before .before .before .before .before .before .before .list-capability .kept, c .before .before .before .before .before .before .before .before .before .before .before .before .pre .1, c .before .before .before .before .before .before .before .before .before .before .before .before .good, c .before .before .before .before .before .before .before .before .before .before .before .before .fits)
+
+sub-put-shape : tie.Need-sub-put-shape
+sub-put-shape c = omega (arith, c .before .before .before .before .list-capability2 .ensures .grown, c .before .before .before .before .before .before .before .before .list-capability .ensures .grown, c .before .before .before .before .list-capability2 .kept, c .before .before .before .before .before .before .before .before .list-capability .kept, c .before .before .before .before .before .before .before .before .before .before .before .before .pre .1, c .before .before .before .before .before .before .before .before .before .before .before .before .good, c .before .before .before .before .before .before .before .before .before .before .before .before .fits)
+
+part-put-shape-start : tie.Need-part-put-shape-start
+part-put-shape-start c = omega (arith, c .before .before .before .before .list-capability2 .ensures .grown, c .before .before .before .before .before .before .before .before .list-capability .ensures .grown, c .before .before .before .before .list-capability2 .kept, c .before .before .before .before .before .before .before .before .list-capability .kept, c .before .before .before .before .before .before .before .before .before .before .before .before .pre .1, c .before .before .before .before .before .before .before .before .before .before .before .before .good, c .before .before .before .before .before .before .before .before .before .before .before .before .fits)
+
+part-put-shape-end : tie.Need-part-put-shape-end
+part-put-shape-end c = search needs
+
+low-word-requires : tie.Need-low-word-requires
+low-word-requires c κs = search needs
+
+low-word-requires-2 : tie.Need-low-word-requires-2
+low-word-requires-2 c κs = search needs
+
+low-word-requires-3 : tie.Need-low-word-requires-3
+low-word-requires-3 c κs = search needs
+
+put-shape-requires : tie.Need-put-shape-requires
+put-shape-requires c κs = search needs
+
+add-b : tie.Need-add-b
+add-b c = let a = c .before .before .before .before .before .before .before .before .before .before .before .before .before .before .before .before .before .before .before .before .args in
+    let x = c .before .before .before .before .before .before .before .before .before .before .before .before .before .before .before .before .list-capability in
+    let y = c .before .before .before .before .before .before .before .before .before .before .before .before .list-capability2 in
+    let z = c .before .before .before .put-shape in
+    let i = words (typeOf (shapeOf (a .l)) (c .before .before .before .before .before .before .low-word .result) (c .before .before .before .before .before .low-word2 .result) (c .before .before .before .before .low-word3 .result)) in
+    let few = type-few (shapeOf (a .l)) (c .before .before .before .before .before .before .low-word .result) (c .before .before .before .before .before .low-word2 .result) (c .before .before .before .before .low-word3 .result) in
+    omega (arith, y .ensures .grown, x .ensures .grown, y .kept, x .kept, c .before .before .before .before .before .before .before .before .before .before .before .before .before .before .before .before .before .before .before .before .pre .1, c .before .before .before .before .before .before .before .before .before .before .before .before .before .before .before .before .before .before .before .before .good, c .before .before .before .before .before .before .before .before .before .before .before .before .before .before .before .before .before .before .before .before .fits, few, adds-count (y .result) (y .last .0) i (4 + longer (shapeOf (a .l))) few declarations (z .last .0) (z .result) (omega (arith, y .ensures .grown, x .ensures .grown, y .kept, x .kept, c .before .before .before .before .before .before .before .before .before .before .before .before .before .before .before .before .before .before .before .before .pre .1)) (z .ensures))
+
+same-length : tie.Need-same-length
+same-length c = search needs
+
+returns : tie.Need-returns
+returns c = let a = c .before .before .before .before .before .before .before .before .before .before .before .before .before .before .before .before .before .before .before .before .args in
+    let x = c .before .before .before .before .before .before .before .before .before .before .before .before .before .before .before .before .list-capability in
+    let y = c .before .before .before .before .before .before .before .before .before .before .before .before .list-capability2 in
+    let z = c .before .before .before .put-shape in
+    let k = c .before .before .before .before .before .before .before .before .before .before .before .before .before .before .before .before .before .before .capabilities-of in
+    put-declared (shapeOf (a .l)) (c .before .before .before .before .before .before .before .before .before .before .before .before .before .before .before .before .before .before .before .before .pre .0) (a .id) (a .x) (a .y) (a .w) (x .result) (y .result) (a .sections .now) (x .last .0) (y .last .0) (k .result .first) (k .result .second) (k .ensures) (x .ensures) (y .ensures)
+    (c .before .before .before .before .before .before .low-word .result) (c .before .before .before .before .before .low-word2 .result) (c .before .before .before .before .low-word3 .result) (z .result) (z .last .0) (c .before .before .before .before .before .before .low-word .ensures) (c .before .before .before .before .before .low-word2 .ensures) (c .before .before .before .before .low-word3 .ensures)
+    (omega (arith, y .ensures .grown, x .ensures .grown, y .kept, x .kept, c .before .before .before .before .before .before .before .before .before .before .before .before .before .before .before .before .before .before .before .before .pre .1)) (z .ensures)
+
+pub put-declaration-spec : {M : Type 1} → statement M
+put-declaration-spec =
+    tie.close
+    (tie.spec
+    capabilities-of-requires
+    list-capability-requires
+    list-capability-requires-2
+    mul-start
+    add-start
+    mul-put-shape
+    sub-put-shape
+    part-put-shape-start
+    part-put-shape-end
+    low-word-requires
+    low-word-requires-2
+    low-word-requires-3
+    put-shape-requires
+    add-b
+    same-length
+    returns)

@@ -1,0 +1,223 @@
+// Finding a type's id may declare it, and declaring it may find another's: the nesting rank of the shape falls.
+// With them what is found or declared the same way: a literal and a null.
+use kinds::ScalarKind;
+use literals::Literal;
+use lookup::Inner;
+use lookup::Length;
+use lookup::LocalType;
+use lookup::LookupType;
+use lookup::PointerClass;
+use lookup::VectorSize;
+use writer::Sought;
+use writer::Taken;
+use writer::Writer;
+ghost use mathlib.Core.Path.{_≡_};
+ghost use mathlib.Core.List.{List};
+ghost use Prim.Native.Nat.{ℕ};
+ghost use Rattle.definition.specs.Choice.{orElse};
+ghost use Rattle.definition.specs.Shapes.{kindOf, scalar, shape};
+ghost use Rattle.definition.specs.State.{State, idOf};
+ghost use Rattle.definition.specs.Literals.{u32 as unsigned};
+ghost use Rattle.definition.specs.Finding.{find, literal, literalKind, literalOp, nullOf};
+ghost use Rattle.kinds.specs.Numbers.{kindNumber};
+ghost use Rattle.literals.specs.Forms.{literalOf};
+ghost use Rattle.lookup.specs.Local.{shapeOf, keyOf};
+ghost use Rattle.lookup.specs.Packed.{SmallShape};
+ghost use Rattle.writer.specs.Regions.{declarations};
+ghost use Rattle.writer.specs.Cost.{nothing, declaring};
+ghost use Rattle.writer.specs.Held.{Held, RoomIn, RoomFor, Room};
+ghost use Rattle.writer.specs.Steps.{GotBy, Kept, Puts};
+ghost use Rattle.finding.specs.Costs.{own, within, costOf, literalCost, nullCost};
+ghost use Rattle.finding.specs.Found.{shapeDeclared, ShapePut};
+
+const OP_CONSTANT_TRUE: u32 = 41;
+
+const OP_CONSTANT_FALSE: u32 = 42;
+
+const OP_CONSTANT: u32 = 43;
+
+const OP_CONSTANT_NULL: u32 = 46;
+
+const DECLARATIONS: usize = 4;
+
+// ---- types
+
+// Declares a shape under its id, once what it names is found, and lists its capabilities. x is the id of the type that it
+// names, y that of its length.
+fn put_declaration(sections: &mut [u32], w: Writer, l: LocalType, id: u64, x: u64, y: u64) -> Writer
+    requires { ⌜ SmallShape (shapeOf l) × RoomFor (own (shapeOf l)) w (now sections) ⌝ }
+    ensures { λ r. ⌜ ShapePut (shapeOf l) id x y w (now (sections .entry)) r (now (sections .exit)) ⌝ }
+{
+    let c = lookup::capabilities_of(l);
+    let a = writer::list_capability(sections, w, c.first);
+    let mut b = writer::list_capability(sections, a, c.second);
+    let start = DECLARATIONS * b.bytes + b.declarations;
+    let n = lookup::put_shape(
+        &mut sections[start..],
+        l,
+        writer::low_word(id),
+        writer::low_word(x),
+        writer::low_word(y),
+    );
+    b.declarations += n;
+    b
+}
+
+// The id of a type, which is declared if it has none yet. Of an entry that is not there it is 0.
+pub fn get_type_id(tables: &mut [u64], sections: &mut [u32], w: Writer, t: LookupType) -> Taken
+    requires { ⌜ Room (costOf (keyOf t)) w (now tables) (now sections) ⌝ }
+    ensures { λ r. ⌜ GotBy (costOf (keyOf t)) (find (keyOf t)) w (now (tables .entry)) (now (sections .entry)) r (now (tables .exit)) (now (sections .exit)) ⌝ }
+{
+    let k = lookup::key(t);
+    match writer::find_type(tables, w, k) {
+        Sought::Id(id) => Taken { id, writer: w },
+        Sought::Absent => match t {
+            LookupType::Handle(_) => Taken { id: 0, writer: w },
+            LookupType::Local(l) => {
+                let n = writer::take_id(w);
+                let id = n.id;
+                let v = writer::enter_type(tables, n.writer, k, id);
+                let u = write_type_declaration_local(tables, sections, v, l, id);
+                Taken { id, writer: u }
+            }
+        },
+    }
+}
+
+// Declares a shape under its id: what it names first, then the shape.
+fn write_type_declaration_local(
+    tables: &mut [u64],
+    sections: &mut [u32],
+    w: Writer,
+    l: LocalType,
+    id: u64,
+) -> Writer
+    requires { ⌜ SmallShape (shapeOf l) × Room (within (shapeOf l)) w (now tables) (now sections) ⌝ }
+    ensures { λ r. ⌜ Kept (within (shapeOf l)) (shapeDeclared (shapeOf l) id) w (now (tables .entry)) (now (sections .entry)) r (now (tables .exit)) (now (sections .exit)) ⌝ }
+{
+    match lookup::inner_of(l) {
+        Inner::Nothing => put_declaration(sections, w, l, id, 0, 0),
+        Inner::Of(t) => {
+            let f = get_type_id(tables, sections, w, t);
+            match lookup::length_of(l) {
+                Length::Nothing => put_declaration(sections, f.writer, l, id, f.id, 0),
+                Length::Of(n) => {
+                    let g = get_constant_scalar(tables, sections, f.writer, Literal::U32(n));
+                    put_declaration(sections, g.writer, l, id, f.id, g.id)
+                }
+            }
+        }
+    }
+}
+
+// The id of a type that is entered; 0 where it is not.
+pub fn type_id(tables: &[u64], w: Writer, t: LookupType) -> u64
+    requires { ⌜ RoomIn nothing w (now tables) ⌝ }
+    ensures { λ r. ⌜ ((S : List ℕ) (s : State) → Held w (now (tables .entry)) S s → r ≡ orElse 0 (idOf s (keyOf t))) ⌝ }
+{
+    match writer::find_type(tables, w, lookup::key(t)) {
+        Sought::Id(id) => id,
+        Sought::Absent => 0,
+    }
+}
+
+// ---- literals
+
+fn scalar_type(kind: ScalarKind, width: u8) -> LookupType
+    ensures { λ r. ⌜ keyOf r ≡ shape (scalar (kindOf (kindNumber kind) width)) ⌝ }
+{
+    LookupType::Local(LocalType::Value {
+        size: VectorSize::One,
+        kind,
+        width,
+        class: PointerClass::Nowhere,
+    })
+}
+
+pub fn literal_type(l: Literal) -> LookupType
+    ensures { λ r. ⌜ keyOf r ≡ shape (scalar (literalKind (literalOf l))) ⌝ }
+{
+    match literals::form(l) {
+        0 => scalar_type(ScalarKind::Float, 8),
+        1 => scalar_type(ScalarKind::Float, 4),
+        2 => scalar_type(ScalarKind::Uint, 4),
+        3 => scalar_type(ScalarKind::Sint, 4),
+        _ => scalar_type(ScalarKind::Bool, 1),
+    }
+}
+
+// A literal's own instruction, once its type is found.
+fn write_literal(sections: &mut [u32], w: Writer, l: Literal, ty: u64, id: u64) -> Writer
+    requires { ⌜ RoomFor (declaring 5) w (now sections) ⌝ }
+    ensures { λ r. ⌜ Puts declarations 5 (literalOp (literalOf l) ty id) w (now (sections .entry)) r (now (sections .exit)) ⌝ }
+{
+    let x = writer::low_word(ty);
+    let y = writer::low_word(id);
+    match literals::form(l) {
+        0 => writer::declare(
+            sections,
+            w,
+            OP_CONSTANT,
+            &[x, y, literals::low_word(l), literals::high_word(l)],
+        ),
+        4 => {
+            if literals::bits(l) == 1 {
+                return writer::declare(sections, w, OP_CONSTANT_TRUE, &[x, y]);
+            }
+            writer::declare(sections, w, OP_CONSTANT_FALSE, &[x, y])
+        }
+        _ => writer::declare(sections, w, OP_CONSTANT, &[x, y, literals::low_word(l)]),
+    }
+}
+
+// The id of a literal, which takes its id before its type is found.
+pub fn get_constant_scalar(tables: &mut [u64], sections: &mut [u32], w: Writer, l: Literal) -> Taken
+    requires { ⌜ Room literalCost w (now tables) (now sections) ⌝ }
+    ensures { λ r. ⌜ GotBy literalCost (literal (literalOf l)) w (now (tables .entry)) (now (sections .entry)) r (now (tables .exit)) (now (sections .exit)) ⌝ }
+{
+    let form = literals::form(l) as u64;
+    let bits = literals::bits(l);
+    match writer::find_literal(tables, w, form, bits) {
+        Sought::Id(id) => Taken { id, writer: w },
+        Sought::Absent => {
+            let m = writer::take_id(w);
+            let id = m.id;
+            let f = get_type_id(tables, sections, m.writer, literal_type(l));
+            let v = write_literal(sections, f.writer, l, f.id, id);
+            let u = writer::enter_literal(tables, v, form, bits, id);
+            Taken { id, writer: u }
+        }
+    }
+}
+
+// The id of a U32 literal: an array's length.
+pub fn get_index_constant(tables: &mut [u64], sections: &mut [u32], w: Writer, index: u32) -> Taken
+    requires { ⌜ Room literalCost w (now tables) (now sections) ⌝ }
+    ensures { λ r. ⌜ GotBy literalCost (literal (unsigned index)) w (now (tables .entry)) (now (sections .entry)) r (now (tables .exit)) (now (sections .exit)) ⌝ }
+{
+    get_constant_scalar(tables, sections, w, Literal::U32(index))
+}
+
+// ---- nulls
+
+// The id of the null of the type with an id.
+pub fn write_constant_null(tables: &mut [u64], sections: &mut [u32], w: Writer, ty: u64) -> Taken
+    requires { ⌜ Room nullCost w (now tables) (now sections) ⌝ }
+    ensures { λ r. ⌜ GotBy nullCost (nullOf ty) w (now (tables .entry)) (now (sections .entry)) r (now (tables .exit)) (now (sections .exit)) ⌝ }
+{
+    match writer::find_null(tables, w, ty) {
+        Sought::Id(id) => Taken { id, writer: w },
+        Sought::Absent => {
+            let m = writer::take_id(w);
+            let id = m.id;
+            let v = writer::declare(
+                sections,
+                m.writer,
+                OP_CONSTANT_NULL,
+                &[writer::low_word(ty), writer::low_word(id)],
+            );
+            let u = writer::enter_null(tables, v, ty, id);
+            Taken { id, writer: u }
+        }
+    }
+}

@@ -1,0 +1,114 @@
+-- `inner_of` meets its contract. Each arm is told its shape (`enum-told`, and `enum-known` where the arm reads a field of it); with
+-- that put in, `inner` computes to the arm's answer. A value pointer keeps its size, so there `pointed` says that the value without
+-- its class is the shape pointed to, whatever the size.
+use mathlib.Core.Path.{ap}
+use mathlib.Core.Option.{some}
+use borrow.Author.Needs.{needs}
+use Rattle.definition.specs.Shapes.{Shape, shape, kindOf}
+use Rattle.kinds.specs.Numbers.{kindNumber}
+use Rattle.lookup.proofs.Values.{pointed}
+use Rattle.lookup.proofs.inner_of.Statement.{statement}
+use Rattle.lookup.proofs.inner_of.Tie as tie
+
+enum-known-l : tie.Need-enum-known-l
+enum-known-l c = search needs
+
+enum-told : tie.Need-enum-told
+enum-told c = search needs
+
+enum-told-2 : tie.Need-enum-told-2
+enum-told-2 c = search needs
+
+enum-told-3 : tie.Need-enum-told-3
+enum-told-3 c = search needs
+
+enum-told-4 : tie.Need-enum-told-4
+enum-told-4 c = search needs
+
+enum-known-l-2 : tie.Need-enum-known-l-2
+enum-known-l-2 c = search needs
+
+enum-known-l-3 : tie.Need-enum-known-l-3
+enum-known-l-3 c = search needs
+
+enum-known-l-4 : tie.Need-enum-known-l-4
+enum-known-l-4 c = search needs
+
+enum-told-5 : tie.Need-enum-told-5
+enum-told-5 c = search needs
+
+enum-known-l-5 : tie.Need-enum-known-l-5
+enum-known-l-5 c = search needs
+
+enum-known-l-6 : tie.Need-enum-known-l-6
+enum-known-l-6 c = search needs
+
+enum-told-6 : tie.Need-enum-told-6
+enum-told-6 c = search needs
+
+enum-told-7 : tie.Need-enum-told-7
+enum-told-7 c = search needs
+
+returns : tie.Need-returns
+returns c = rw (c .before .before .before .before .before .l .given .1, c .before .before .enum-told .given .1, c .enum-told2 .given .1)
+
+returns-2 : tie.Need-returns-2
+returns-2 c = rw (c .before .before .before .before .before .l .given .1, c .before .before .enum-told .given .1, c .enum-told3 .given .1)
+
+returns-3 : tie.Need-returns-3
+returns-3 c = let g = c .before .before .before .l .given .0 in
+    rw (c .before .before .before .l .given .1, c .enum-told4 .given .1) (ap (λ (z : Shape). some (shape z)) (pointed (g .0) (kindOf (kindNumber (g .1 .0)) (g .1 .1 .0))))
+
+returns-4 : tie.Need-returns-4
+unfolding kindOf
+returns-4 c = rw (c .before .l2 .given .1)
+
+returns-5 : tie.Need-returns-5
+returns-5 c = rw (c .before .l3 .given .1)
+
+returns-6 : tie.Need-returns-6
+returns-6 c = rw (c .before .l4 .given .1)
+
+returns-7 : tie.Need-returns-7
+returns-7 c = rw (c .enum-told5 .given .1)
+
+returns-8 : tie.Need-returns-8
+returns-8 c = rw (c .before .l5 .given .1)
+
+returns-9 : tie.Need-returns-9
+returns-9 c = rw (c .before .l6 .given .1)
+
+returns-10 : tie.Need-returns-10
+returns-10 c = rw (c .enum-told6 .given .1)
+
+returns-11 : tie.Need-returns-11
+returns-11 c = rw (c .enum-told7 .given .1)
+
+pub inner-of-spec : {M : Type 1} → statement M
+inner-of-spec =
+    tie.close
+    (tie.spec
+    enum-known-l
+    enum-told
+    enum-told-2
+    enum-told-3
+    enum-told-4
+    enum-known-l-2
+    enum-known-l-3
+    enum-known-l-4
+    enum-told-5
+    enum-known-l-5
+    enum-known-l-6
+    enum-told-6
+    enum-told-7
+    returns
+    returns-2
+    returns-3
+    returns-4
+    returns-5
+    returns-6
+    returns-7
+    returns-8
+    returns-9
+    returns-10
+    returns-11)

@@ -1,0 +1,137 @@
+-- `local_key` meets its contract. Each arm is told its shape (`enum-told`, and `enum-known` where the arm reads a field of it); with
+-- that put in, the callee's promise is the claim. A value's key was packed of a scalar's code and not of the shape: `value-packed`
+-- and `value-small` take it there.
+use Prim.Native.Nat.{ℕ}
+use mathlib.Core.Path.{subst, refl, ap, _∙_}
+use borrow.Author.Needs.{needs}
+use Rattle.definition.specs.Shapes.{kindOf}
+use Rattle.kinds.specs.Numbers.{kindNumber}
+use Rattle.lookup.specs.Local.{SmallValue, valueKey}
+use Rattle.lookup.proofs.Values.{value-small, value-packed}
+use Rattle.lookup.proofs.local_key.Statement.{statement}
+use Rattle.lookup.proofs.local_key.Tie as tie
+
+enum-known-l : tie.Need-enum-known-l
+enum-known-l c = search needs
+
+scalar-code-requires : tie.Need-scalar-code-requires
+scalar-code-requires c κs = search needs
+
+value-key-requires : tie.Need-value-key-requires
+value-key-requires c κs = search needs
+
+enum-known-l-2 : tie.Need-enum-known-l-2
+enum-known-l-2 c = search needs
+
+bytes-key-requires : tie.Need-bytes-key-requires
+bytes-key-requires c κs = search needs
+
+enum-known-l-3 : tie.Need-enum-known-l-3
+enum-known-l-3 c = search needs
+
+cast-base-key : tie.Need-cast-base-key
+cast-base-key c = search needs
+
+base-key-requires : tie.Need-base-key-requires
+base-key-requires c κs = search needs
+
+enum-known-l-4 : tie.Need-enum-known-l-4
+enum-known-l-4 c = search needs
+
+scalar-code-requires-2 : tie.Need-scalar-code-requires-2
+scalar-code-requires-2 c κs = search needs
+
+bytes-key-requires-2 : tie.Need-bytes-key-requires-2
+bytes-key-requires-2 c κs = search needs
+
+enum-told : tie.Need-enum-told
+enum-told c = search needs
+
+enum-known-l-5 : tie.Need-enum-known-l-5
+enum-known-l-5 c = search needs
+
+space-number-requires : tie.Need-space-number-requires
+space-number-requires c κs = search needs
+
+space-access-requires : tie.Need-space-access-requires
+space-access-requires c κs = search needs
+
+base-key-requires-2 : tie.Need-base-key-requires-2
+base-key-requires-2 c κs = search needs
+
+enum-known-l-6 : tie.Need-enum-known-l-6
+enum-known-l-6 c = search needs
+
+base-key-requires-3 : tie.Need-base-key-requires-3
+base-key-requires-3 c κs = search needs
+
+enum-told-2 : tie.Need-enum-told-2
+enum-told-2 c = search needs
+
+enum-told-3 : tie.Need-enum-told-3
+enum-told-3 c = search needs
+
+returns : tie.Need-returns
+returns c = let g = c .before .before .before .l .given .0 in
+    let e = c .before .scalar-code .ensures .0 in
+    let v = c .value-key .ensures in
+    let k = kindOf (kindNumber (g .1 .0)) (g .1 .1 .0) in
+    rw (c .before .before .before .l .given .1) (v .0 ∙ ap (λ (k : ℕ). valueKey (g .0) k (g .1 .1 .1 .0)) e ∙ value-packed (g .0) k (g .1 .1 .1 .0), value-small (g .0) k (g .1 .1 .1 .0) (subst (λ (k : ℕ). SmallValue (g .0) k (g .1 .1 .1 .0)) e (v .1)))
+
+returns-2 : tie.Need-returns-2
+returns-2 c = rw (c .before .before .l2 .given .1) (c .bytes-key .ensures)
+
+returns-3 : tie.Need-returns-3
+returns-3 c = rw (c .before .before .l3 .given .1) (c .base-key .ensures)
+
+returns-4 : tie.Need-returns-4
+returns-4 c = rw (c .before .before .before .l4 .given .1, ← c .before .scalar-code2 .ensures .0) (c .bytes-key2 .ensures)
+
+returns-5 : tie.Need-returns-5
+returns-5 c = rw (c .enum-told .given .1) (refl, tt)
+
+returns-6 : tie.Need-returns-6
+returns-6 c = rw (c .before .before .before .before .l5 .given .1, ← c .before .before .space-number .ensures .0, ← c .before .space-access .ensures) (c .base-key2 .ensures)
+
+returns-7 : tie.Need-returns-7
+returns-7 c = rw (c .before .before .l6 .given .1) (c .base-key3 .ensures)
+
+returns-8 : tie.Need-returns-8
+returns-8 c = rw (c .enum-told2 .given .1) (refl, tt)
+
+returns-9 : tie.Need-returns-9
+returns-9 c = rw (c .enum-told3 .given .1) (refl, tt)
+
+pub local-key-spec : {M : Type 1} → statement M
+local-key-spec =
+    tie.close
+    (tie.spec
+    enum-known-l
+    scalar-code-requires
+    value-key-requires
+    enum-known-l-2
+    bytes-key-requires
+    enum-known-l-3
+    cast-base-key
+    base-key-requires
+    enum-known-l-4
+    scalar-code-requires-2
+    bytes-key-requires-2
+    enum-told
+    enum-known-l-5
+    space-number-requires
+    space-access-requires
+    base-key-requires-2
+    enum-known-l-6
+    base-key-requires-3
+    enum-told-2
+    enum-told-3
+    returns
+    returns-2
+    returns-3
+    returns-4
+    returns-5
+    returns-6
+    returns-7
+    returns-8
+    returns-9)

@@ -1,0 +1,135 @@
+-- Under `Held` each region has the words of a section of the state, as words of 32 bits. Where the bound is small those are the
+-- state's own words (`apart`), so what lies in the regions, one behind the other, is the module (`same-words`). `module-put` follows
+-- the calls that write it; then a law for each answer.
+use Prim.Native.Nat.{ℕ, _+_, _*_, _-_, _≤_, _<_}
+use mathlib.Core.Path.{_≡_, refl, sym, ap, _∙_}
+use mathlib.Core.Bool.{true}
+use mathlib.Core.List.{List, [], _∷_, _++_, map, append-assoc, append-nil}
+use native.Mathlib.Omega.{arith}
+use lib.ListN.{length, take, drop, length-append, length-drop}
+use lib.Seq.{take-all, length-take-le}
+use borrow.Author.Tests.{le-leb, lt-leb, ltb-true}
+use Rattle.definition.specs.Choice.{every}
+use Rattle.definition.specs.Instructions.{header, allWords, put}
+use Rattle.definition.specs.Reader.{isWord}
+use Rattle.definition.specs.State.{State, boundOf, capabilityInstructions, instructions, moduleWords}
+use Rattle.definition.specs.Operations.{boundMost}
+use Rattle.definition.proofs.Truth.{both}
+use Rattle.spirv.specs.Put.{Put}
+use Rattle.spirv.specs.Sections.{Spliced}
+use Rattle.spirv.proofs.Puts.{Begun, more, part, back, behind}
+use Rattle.writer.specs.Rows.{low}
+use Rattle.writer.specs.Regions.{Section, names, annotations, declarations, sectionAt, used}
+use Rattle.writer.specs.Cost.{nothing}
+use Rattle.writer.specs.Held.{Held, RoomFor}
+use Rattle.writer.specs.declared.Writer.{Writer}
+use Rattle.module_layout.specs.declared.Answer.the-variants.{Written, Refused}
+use Rattle.module_layout.specs.Finished.{Front, countOf, laidOut, wordsIn, Finished}
+use Rattle.module_layout.proofs.Capabilities.{all-append, caps-length}
+
+-- ---- words of 32 bits
+
+low-word : (x : ℕ) → isWord x ≡ true → low x ≡ x
+low-word x h = let l : x < 4294967296 = ltb-true x 4294967296 h in omega arith
+
+-- the first of two lists of words is itself as words, and the second is of words too
+apart : (xs ys : List ℕ) → every isWord (xs ++ ys) ≡ true → (map low xs ≡ xs) × (every isWord ys ≡ true)
+apart [] ys h = (refl, h)
+apart (x ∷ xs) ys h =
+    let b = both (isWord x) (every isWord (xs ++ ys)) h in
+    let r = apart xs ys (b .1) in
+    (rw (low-word x (b .0), r .0), r .1)
+
+-- ---- the module's words, section by section
+
+module-is : (s : State) → moduleWords s
+    ≡ header (boundOf s) ++ (allWords (capabilityInstructions (s .capabilities)) ++ (allWords (s .names) ++ (allWords (s .annotations) ++ allWords (s .declarations))))
+unfolding moduleWords instructions
+module-is s = simp all-append
+
+pub same-words : (w : Writer) (T S : List ℕ) (s : State) → Held w T S s → every isWord (moduleWords s) ≡ true → wordsIn w S (boundOf s) ≡ moduleWords s
+same-words w T S s h fits =
+    let cs = allWords (capabilityInstructions (s .capabilities)) in
+    let ns = allWords (s .names) in
+    let xs = allWords (s .annotations) in
+    let ds = allWords (s .declarations) in
+    let e1 = apart (header (boundOf s)) (cs ++ (ns ++ (xs ++ ds))) (rw module-is at fits) in
+    let e2 = apart cs (ns ++ (xs ++ ds)) (e1 .1) in
+    let e3 = apart ns (xs ++ ds) (e2 .1) in
+    let e4 = apart xs ds (e3 .1) in
+    let e5 = apart ds [] (rw append-nil (e4 .1)) in
+    ap (laidOut (boundOf s)) (h .sections)
+    ∙ rw (e3 .0, e4 .0, e5 .0) (ap (λ (l : List ℕ). header (boundOf s) ++ l) (append-assoc (cs ++ ns) xs ds ∙ append-assoc cs ns (xs ++ ds)) ∙ sym (module-is s))
+
+-- ---- how much lies in the regions
+
+module _ (w : Writer) (S : List ℕ) (room : RoomFor nothing w S) where
+  pub listed : length (take (w .capabilities) S) ≡ w .capabilities
+  listed = length-take-le (w .capabilities) S (omega (arith, room .in-list, room .in-capabilities))
+
+  in-region : (b : Section) → used b w ≤ length (drop (sectionAt b w) S)
+  in-region names = simp length-drop (omega (arith, room .in-list, room .in-names))
+  in-region annotations = simp length-drop (omega (arith, room .in-list, room .in-annotations))
+  in-region declarations = simp length-drop (omega (arith, room .in-list, room .in-declarations))
+
+  taken : (b : Section) → length (take (used b w) (drop (sectionAt b w) S)) ≡ used b w
+  taken b = length-take-le (used b w) (drop (sectionAt b w) S) (in-region b)
+
+  pub count-is : (bound : ℕ) → length (wordsIn w S bound) ≡ countOf w
+  count-is bound = simp (length-append, caps-length, listed, taken names, taken annotations, taken declarations) (omega arith)
+
+-- ---- one section behind the other
+
+-- a slice from a place on is what is left of the list from there
+pub rest-of : (xs : List ℕ) (start : ℕ) → take (length xs - start) (drop start xs) ≡ drop start xs
+rest-of xs start = take-all (length xs - start) (drop start xs) (simp length-drop (omega arith))
+
+pub front-put : (bound : ℕ) (cs out : List ℕ) → 5 + 2 * length cs ≤ length out → (y z : List ℕ) (m k : ℕ) → Put (header bound) out y m
+    → Put (allWords (capabilityInstructions cs)) (part y 5) z k → Front bound cs out (back y 5 z) (5 + 2 * length cs)
+front-put bound cs out room y z m k p q = record {
+  written = behind (header bound) (allWords (capabilityInstructions cs)) out y z m 5 k (5 + 2 * length cs) p refl q (omega (arith, caps-length cs)) room;
+  next = refl;
+}
+
+pub module-put : (w : Writer) (S : List ℕ) (bound : ℕ) (out : List ℕ) → RoomFor nothing w S → countOf w ≤ length out
+    → (y2 y3 y4 y5 : List ℕ) (r2 r3 r4 r5 : ℕ) → Front bound (take (w .capabilities) S) out y2 r2
+    → Spliced y2 r2 (drop (sectionAt names w) S) (w .names) y3 r3
+    → Spliced y3 r3 (drop (sectionAt annotations w) S) (w .annotations) y4 r4
+    → Spliced y4 r4 (drop (sectionAt declarations w) S) (w .declarations) y5 r5 → Put (wordsIn w S bound) out y5 r5
+module-put w S bound out room fits y2 y3 y4 y5 r2 r3 r4 r5 f s3 s4 s5 =
+    let cs = take (w .capabilities) S in
+    let at : (b : Section) → List ℕ = λ b. drop (sectionAt b w) S in
+    let l = listed w S room in
+    let b2 : Begun (header bound ++ allWords (capabilityInstructions cs)) out y2 r2 = record { written = f .written; size = simp length-append (omega (arith, f .next, caps-length cs)) } in
+    let b3 = more _ out y2 (at names) y3 r2 (w .names) r3 b2 s3 (in-region w S room names) (omega (arith, f .next)) in
+    let b4 = more _ out y3 (at annotations) y4 r3 (w .annotations) r4 b3 s4 (in-region w S room annotations) (omega (arith, f .next, s3 .next)) in
+    let b5 = more _ out y4 (at declarations) y5 r4 (w .declarations) r5 b4 s5 (in-region w S room declarations) (omega (arith, f .next, s3 .next, s4 .next)) in
+    b5 .written
+
+-- ---- the answers
+
+module _ (w : Writer) (S out : List ℕ) where
+  -- 15
+  pub passes : boundMost ≤ w .idgen .last → Finished w S out (Refused 15) out
+  passes h = record { says = λ p T held fits. simp (lt-leb (boundOf (p .state)) boundMost (omega (arith, held .last))) }
+
+  module _ (low : w .idgen .last < boundMost) (room : RoomFor nothing w S) where
+    -- 16
+    pub short : length out < countOf w → Finished w S out (Refused 16) out
+    short h = record {
+      says = λ p T held fits.
+          let e = same-words w T S (p .state) held (fits (omega (arith, held .last))) in
+          let l : length out < length (moduleWords (p .state)) = omega (arith, ap length e, count-is w S room (boundOf (p .state))) in
+          simp (le-leb (boundOf (p .state)) boundMost (omega (arith, held .last)), lt-leb (length (moduleWords (p .state))) (length out) l);
+    }
+
+    pub written : (bound n m : ℕ) (after : List ℕ) → bound ≡ w .idgen .last + 1 → n ≡ countOf w → n ≤ length out → Put (wordsIn w S bound) out after m
+        → Finished w S out (Written n bound) after
+    written bound n m after eb en h q = record {
+      says = λ p T held fits.
+          let eq : bound ≡ boundOf (p .state) = omega (arith, held .last) in
+          let e : wordsIn w S bound ≡ moduleWords (p .state) = rw eq (same-words w T S (p .state) held (fits (omega (arith, held .last)))) in
+          let l : length (moduleWords (p .state)) ≡ n = omega (arith, ap length e, count-is w S room bound) in
+          let f : after ≡ put (moduleWords (p .state)) out = q .words ∙ ap (λ (ws : List ℕ). put ws out) e in
+          simp (le-leb (boundOf (p .state)) boundMost (omega (arith, held .last)), le-leb (length (moduleWords (p .state))) (length out) (omega arith)) cc;
+    }

@@ -1,0 +1,62 @@
+-- The invariant: the first i instructions stand at the front. The measure is how many numbers are left.
+use borrow.Author.Needs.{needs}
+use Prim.Native.Nat.{_-_}
+use lib.ListN.{length}
+use Rattle.module_layout.proofs.Capabilities.{Listing, listing-start, listing-more, listing-all}
+use Rattle.module_layout.proofs.put_capabilities.Statement.{statement}
+use Rattle.module_layout.proofs.put_capabilities.Tie as tie
+
+abbrev Inv-loop : tie.InvT-loop
+Inv-loop out₀ numbers i₀ at₀ out i at = Listing numbers out₀ i out at
+
+abbrev μ-loop : tie.MeasureT-loop
+μ-loop out₀ numbers i₀ at₀ out i at = length numbers - i
+
+loop-holds : tie.Need-loop-holds Inv-loop μ-loop
+loop-holds c = search (needs, listing-start)
+
+mul-put-capability : tie.Need-mul-put-capability Inv-loop μ-loop
+mul-put-capability c = search needs
+
+shared-slice-read-put-capability : tie.Need-shared-slice-read-put-capability Inv-loop μ-loop
+shared-slice-read-put-capability c = search needs
+
+put-capability-requires : tie.Need-put-capability-requires Inv-loop μ-loop
+put-capability-requires c κs = search needs
+
+add-i : tie.Need-add-i Inv-loop μ-loop
+add-i c = search needs
+
+loop-less : tie.Need-loop-less Inv-loop μ-loop
+loop-less c = search needs
+
+loop-again : tie.Need-loop-again Inv-loop μ-loop
+loop-again c =
+    let e = c .before .before .before .before .before .before .before .before .before in
+    let l = c .before .before .before .before .before .before .loop in
+    listing-more (e .args .numbers .now) (e .args .out .now) (l .i) (l .out) (l .at) (l .inv) _ _ (c .before .before .before .before .before .loop-test .taken) (e .pre) (c .before .before .put-capability .ensures)
+
+same-length : tie.Need-same-length Inv-loop μ-loop
+same-length c = c .before .loop .inv .kept
+
+returns : tie.Need-returns Inv-loop μ-loop
+returns c =
+    let a = c .before .before .before .before .args in
+    let l = c .before .loop in
+    listing-all (a .numbers .now) (a .out .now) (l .i) (l .out) (l .at) (l .inv) (c .loop-test .left)
+
+pub put-capabilities-spec : {M : Type 1} → statement M
+put-capabilities-spec =
+    tie.close
+    (tie.spec
+    Inv-loop
+    μ-loop
+    loop-holds
+    mul-put-capability
+    shared-slice-read-put-capability
+    put-capability-requires
+    add-i
+    loop-less
+    loop-again
+    same-length
+    returns)

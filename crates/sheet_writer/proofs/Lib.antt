@@ -1,0 +1,4 @@
+pub mod Given
+pub mod Rooms
+pub mod Turns
+pub mod Loop

@@ -1,0 +1,219 @@
+-- The loop over the records: some state is held, and what is left of the sheet, from here and with what was read, comes to
+-- what the whole comes to. How the loop begins, one turn, and its ways out, each an instance of the laws for any state.
+use Prim.Native.Nat.{ℕ, _+_, _*_, _-_, _≤_, _<_}
+use mathlib.Core.Path.{_≡_, refl, sym, ap, _∙_, subst}
+use mathlib.Core.Bool.{true, false}
+use mathlib.Core.Logic.{_⊎_}
+use mathlib.Core.List.{List, [], _∷_, _++_}
+use native.Mathlib.Omega.{arith}
+use lib.ListN.{length, drop, take, getD, length-drop, length-take}
+use lib.Seq.{length-take-le}
+use Rattle.definition.specs.Bytes.{u16At}
+use Rattle.definition.specs.Sheet.{Record, Entry, Global, recordAt, entryOf, tagRank, startOf, flagsOf, Options, optionsOf, available, remap, type, constant, global}
+use Rattle.definition.specs.Tests.{Seen, Judged, fit, refused, judge, nothing, add, addRecord, headerTest, noRecord, spaceFits, bindingFits, valuesFit, readingTest}
+use Rattle.definition.specs.State.{State, empty}
+use Rattle.definition.specs.Rules.{declareEntry}
+use Rattle.definition.specs.Operations.{Progress, recordTest, declareRecord, noGlobal}
+use Rattle.definition.proofs.Truth.{first-passed}
+use Rattle.definition.proofs.Lists.{getD-snoc}
+use Rattle.records.specs.declared.Counts.{Counts}
+use Rattle.records.specs.Places.{Places, seenOf, Ample, Few, recordFrom, typesFrom}
+use Rattle.records.proofs.Places.{header-size, whole}
+use Rattle.records.proofs.Loop.{Going, start, goes-on, next-inside, ends-fit, ends-four, ends-refused, judge-go}
+use Rattle.sheet.specs.Holding.{noCounts, addCounts, Passed, Held as Kept}
+use Rattle.sheet.proofs.Adding.{looked, counted, placed-of, rank-most}
+use Rattle.zeroable.specs.Memo.{Memo}
+use Rattle.zeroable.proofs.Kept.{grows, empty as nothing-known}
+use Rattle.writer.specs.declared.Writer.{Writer}
+use Rattle.writer.specs.Cost.{nothing as no-cost}
+use Rattle.writer.specs.Held.{Held, Room, Grown}
+use Rattle.writer.specs.Steps.{fresh}
+use Rattle.sheet_writer.specs.declared.Turn.{Turn}
+use Rattle.sheet_writer.specs.Turning.{Before, Ready, EntryWritten, Turned, costAt}
+use Rattle.sheet_writer.specs.Whole.{recordsOf, beforeBound, Capacity, GlobalsFit, Fits}
+use Rattle.sheet_writer.proofs.Given.{told}
+use Rattle.sheet_writer.proofs.Rooms.{Used, no-room, roomy}
+
+-- what was read and what the rules have come to
+abbrev pub progressOf : List ℕ → Places → Counts → State → Progress
+progressOf s p k x = record { seen = seenOf s p k; state = x }
+
+-- at the loop's head
+pub record Holds (s T₀ S₀ m₀ : List ℕ) (p₀ : Places) (nr nb : ℕ) (T S m : List ℕ) (p : Places) (at : ℕ) (k : Counts) (w : Writer) : Type 0 where
+  pub tables : length T ≡ length T₀
+  pub sections : length S ≡ length S₀
+  pub memo-length : length m ≡ length m₀
+  pub remaps : length (p .remaps) ≡ length (p₀ .remaps)
+  pub types : length (p .types) ≡ length (p₀ .types)
+  pub constants : length (p .constants) ≡ length (p₀ .constants)
+  pub globals : length (p .globals) ≡ length (p₀ .globals)
+  pub ample : Ample p
+  pub few : Few k
+  pub small : length s ≤ 16384
+  pub used : Used nr nb at k w
+  pub memo : Memo (seenOf s p k .types) m
+  pub globals-fit : GlobalsFit (seenOf s p k)
+  pub state : State
+  pub held : Held w T S state
+  pub going : Going recordTest (declareRecord (optionsOf (flagsOf s))) (recordsOf s) s at (progressOf s p k state)
+
+-- what was read, as a turn asks for it
+pub before : (s : List ℕ) (p : Places) (k : Counts) → Ample p → Few k → Before s (p .remaps) (p .types) k (seenOf s p k)
+before s p k a f = record { looked = looked s p k a f; available = refl }
+
+pub begins : (s T S m : List ℕ) (p : Places) (nr nb start′ : ℕ) (k : Counts) (w : Writer) → headerTest s ≡ 0 → Ample p → ((j : ℕ) → getD m j 0 ≡ 0) → k ≡ noCounts
+    → start′ ≡ startOf s → start′ ≤ 4294967295 → w ≡ fresh nr nb start′ → Held w T S (empty start′) → Holds s T S m p nr nb T S m p 6 k w
+unfolding spaceFits bindingFits
+begins s T S m p nr nb start′ k w h a e ek es low ew held =
+    let z = header-size s h in
+    rw ek (record {
+      tables = refl;
+      sections = refl;
+      memo-length = refl;
+      remaps = refl;
+      types = refl;
+      constants = refl;
+      globals = refl;
+      ample = a;
+      few = record { remaps = omega arith; types = omega arith; constants = omega arith; globals = omega arith };
+      small = z .1;
+      used = rw ew (omega arith);
+      memo = nothing-known [] m e;
+      globals-fit = λ i. refl;
+      state = empty (startOf s);
+      held = subst (λ (j : ℕ). Held w T S (empty j)) es held;
+      going = start recordTest (declareRecord (optionsOf (flagsOf s))) s 6 (progressOf s p noCounts (empty (startOf s))) (z .0);
+    })
+
+-- a memo speaks of the types read; what is no type changes nothing
+memo-added : (n : Seen) (r : ℕ) (e : Entry) (m : List ℕ) → Memo (n .types) m → Memo (add n r e .types) m
+unfolding add
+memo-added n r (available cs) m h = h
+memo-added n r (remap x) m h = h
+memo-added n r (type t) m h = grows (n .types) t m h
+memo-added n r (constant c) m h = h
+memo-added n r (global g) m h = h
+
+-- a global that is added passed test 10
+fits-added : (n : Seen) (r : ℕ) (e : Entry) → valuesFit e ≡ true → GlobalsFit n → GlobalsFit (add n r e)
+unfolding add
+fits-added n r (available cs) v h = h
+fits-added n r (remap x) v h = h
+fits-added n r (type t) v h = h
+fits-added n r (constant c) v h = h
+fits-added n r (global g) v h = getD-snoc (λ (y : Global). valuesFit (global y) ≡ true) (n .globals) g noGlobal h v
+
+-- a record that is there whole takes the bytes of its length, its tag and its body
+record-length : (rest : List ℕ) → noRecord rest ≡ false → (length (recordAt rest .body) + 3 ≡ 2 + u16At rest 0) × (3 ≤ 2 + u16At rest 0)
+unfolding recordAt
+record-length rest e =
+    let z = whole rest e in
+    let l = length-take-le (u16At rest 0 - 1) (drop 3 rest) (simp length-drop (omega (arith, z .0, z .1))) in
+    (omega (arith, l, z .0), omega (arith, z .0))
+
+module _ (s T₀ S₀ m₀ : List ℕ) (p₀ : Places) (nr nb : ℕ) (T S m : List ℕ) (p : Places) (at : ℕ) (k : Counts) (w : Writer)
+    (h : Holds s T₀ S₀ m₀ p₀ nr nb T S m p at k w) (cap : Capacity s nr nb T₀ S₀ m₀) (ok : headerTest s ≡ 0) where
+  abbrev o : Options
+  o = optionsOf (flagsOf s)
+
+  abbrev now : Progress
+  now = progressOf s p k (h .state)
+
+  judged : recordsOf s ≡ beforeBound s
+  judged = sym (judge-go _ _ ok)
+
+  pub fits : length s ≤ at → Fits s nb p T S k w
+  fits l = record {
+    progress = now;
+    same = ends-fit recordTest (declareRecord o) (recordsOf s) s at now (h .going) l ∙ judged;
+    seen = refl;
+    globals = h .globals-fit;
+    held = h .held;
+    ample = h .ample;
+    few = h .few;
+    room = no-room s T S nr nb at k w (h .used) (h .few) (cap .for-bytes (h .small)) (cap .for-records) (omega (arith, cap .tables, h .tables)) (omega (arith, cap .sections, h .sections)) (h .small) (h .going .inside);
+    size = h .used .bytes;
+  }
+
+  module _ (lt : at < length s) (rest : List ℕ) (e : rest ≡ drop at s) where
+    pub four : noRecord rest ≡ true → refused 4 ≡ beforeBound s
+    four q = ends-four recordTest (declareRecord o) (recordsOf s) s at now (h .going) lt (rw e at q) ∙ judged
+
+    module _ (one : noRecord rest ≡ false) where
+      whole-record : noRecord (drop at s) ≡ false
+      whole-record = rw e at one
+
+      -- the record's bytes, and that they are inside the sheet
+      abbrev l : ℕ
+      l = length (recordAt rest .body) + 3
+
+      inside : at + l ≤ length s
+      inside = omega (arith, record-length rest one .0, rw (← e) at (next-inside recordTest (declareRecord o) (recordsOf s) s at now (h .going) lt whole-record))
+
+      bytes-left : length rest ≤ 16384
+      bytes-left = rw e (simp length-drop (omega (arith, h .small)))
+
+      tested-room : readingTest (seenOf s p k) (recordAt rest) ≡ 0 → Room (costAt rest) w T S × ((v : Writer) → Grown (costAt rest) w v → Used nr nb (at + l) (addCounts k (tagRank (recordAt rest .tag)) at) v)
+      tested-room z =
+          let q = placed-of (seenOf s p k) (recordAt rest) z in
+          roomy s T S nr nb at k w (h .used) (h .few) (cap .for-bytes (h .small)) (cap .for-records) (omega (arith, cap .tables, h .tables)) (omega (arith, cap .sections, h .sections)) (h .small)
+          (seenOf s p k) (counted s p k (h .ample) (h .few)) l (omega arith) inside (tagRank (recordAt rest .tag)) (q .ranked) (rank-most (recordAt rest .tag)) (q .room)
+
+      pub ready : Ready s (p .remaps) (p .types) k rest T S m w
+      ready = record {
+        seen = seenOf s p k;
+        before = before s p k (h .ample) (h .few);
+        remaps = omega (arith, h .ample .remaps, h .few .remaps);
+        types = omega (arith, h .ample .types, h .few .types);
+        few = h .few .types;
+        small = bytes-left;
+        memo = h .memo;
+        no-room = no-room s T S nr nb at k w (h .used) (h .few) (cap .for-bytes (h .small)) (cap .for-records) (omega (arith, cap .tables, h .tables)) (omega (arith, cap .sections, h .sections)) (h .small) (h .going .inside);
+        room = λ z. tested-room z .0;
+      }
+
+      module _ (t : Turn) (T′ S′ m′ : List ℕ) (turn : Turned s (p .remaps) (p .types) k rest (flagsOf s) w T S t T′ S′ m′) where
+        -- the definition's own test, in the state that is held
+        tested : t .refused ≡ recordTest now (recordAt (drop at s))
+        tested = rw (← e) (turn .told (seenOf s p k) (before s p k (h .ample) (h .few)) (h .state) (h .held))
+
+        pub refuses : (t .refused ≡ 0 → ⊥) → refused (t .refused) ≡ beforeBound s
+        refuses f = ends-refused recordTest (declareRecord o) (recordsOf s) s at now (h .going) lt whole-record (t .refused) tested f ∙ judged
+
+        module _ (z : t .refused ≡ 0) where
+          read : readingTest (seenOf s p k) (recordAt (drop at s)) ≡ 0
+          unfolding recordTest
+          read = first-passed (readingTest (seenOf s p k) (recordAt (drop at s))) _ (sym tested ∙ z) .0
+
+          pub passed : Passed s p k at
+          passed = record { ample = h .ample; few = h .few; small = omega (arith, h .small); tested = read }
+
+          pub turns : (p′ : Places) (k′ : Counts) (at′ : ℕ) → Kept s p k at p′ k′ → at′ ≡ at + (2 + u16At rest 0)
+              → length T′ ≡ length T → length S′ ≡ length S → length m′ ≡ length m
+              → length (p′ .remaps) ≡ length (p .remaps) → length (p′ .types) ≡ length (p .types) → length (p′ .constants) ≡ length (p .constants) → length (p′ .globals) ≡ length (p .globals)
+              → Holds s T₀ S₀ m₀ p₀ nr nb T′ S′ m′ p′ at′ k′ (t .writer)
+          unfolding declareRecord addRecord
+          turns p′ k′ at′ a ea lT lS lm lr lt′ lc lg =
+              let b = before s p k (h .ample) (h .few) in
+              let v = turn .written z in
+              let x = declareEntry o (seenOf s p k) (entryOf (recordAt (drop at s)) .value) (h .state) in
+              let u = tested-room (rw e read) .1 (t .writer) (v .grown) in
+              let en : at′ ≡ at + l = omega (arith, ea, record-length rest one .0) in
+              record {
+                tables = lT ∙ h .tables;
+                sections = lS ∙ h .sections;
+                memo-length = lm ∙ h .memo-length;
+                remaps = lr ∙ h .remaps;
+                types = lt′ ∙ h .types;
+                constants = lc ∙ h .constants;
+                globals = lg ∙ h .globals;
+                ample = a .ample;
+                few = a .few;
+                small = h .small;
+                used = rw (en, a .counts, ← e) u;
+                memo = subst (λ (n : Seen). Memo (n .types) m′) (sym (a .seen)) (memo-added (seenOf s p k) (tagRank (recordFrom s at .tag)) (entryOf (recordFrom s at) .value) m′ (turn .memo));
+                globals-fit = subst GlobalsFit (sym (a .seen)) (fits-added (seenOf s p k) (tagRank (recordFrom s at .tag)) (entryOf (recordFrom s at) .value) (told (seenOf s p k) (recordFrom s at) (entryOf (recordFrom s at)) refl read .values) (h .globals-fit));
+                state = x;
+                held = subst (λ (y : List ℕ). Held (t .writer) T′ S′ (declareEntry o (seenOf s p k) (entryOf (recordAt y) .value) (h .state))) e (v .held (seenOf s p k) b (h .state) (h .held));
+                going = rw (ea, e, a .seen) (goes-on recordTest (declareRecord o) (recordsOf s) s at now (h .going) lt whole-record (sym tested ∙ z));
+              }

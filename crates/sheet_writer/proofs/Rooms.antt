@@ -1,0 +1,77 @@
+-- Room for the next record: what is in use is bounded by the bytes passed and by the records counted, of which each took three
+-- bytes at least, and what the caller lends is enough for the sheet's bytes and for as many records as a sheet can have.
+use Prim.Native.Nat.{ℕ, _+_, _*_, _≤_, _<_}
+use mathlib.Core.Path.{_≡_, sym}
+use mathlib.Core.Bool.{true}
+use mathlib.Core.Logic.{_⊎_, ⊎-elim}
+use mathlib.Core.List.{List}
+use native.Mathlib.Omega.{arith}
+use borrow.Author.Tests.{ltb-true}
+use lib.ListN.{length}
+use Rattle.definition.specs.Tests.{Seen, room}
+use Rattle.records.specs.declared.Counts.{Counts}
+use Rattle.records.specs.Counted.{Counted}
+use Rattle.records.specs.Places.{Few}
+use Rattle.sheet.specs.Holding.{addCounts}
+use Rattle.sheet.proofs.Adding.{by-rank}
+use Rattle.writer.specs.declared.Writer.{Writer}
+use Rattle.writer.specs.Cost.{nothing}
+use Rattle.writer.specs.Held.{Room, Grown}
+use Rattle.sheet_writer.specs.Turning.{entryCost}
+
+-- the records that are declared
+abbrev pub countOf : Counts → ℕ
+countOf k = k .types + k .constants + k .globals
+
+-- what is in use after `at` bytes of the sheet
+pub record Used (nr nb at : ℕ) (k : Counts) (w : Writer) : Type 0 where
+  pub records : w .records ≡ nr
+  pub bytes : w .bytes ≡ nb
+  pub each : 3 * countOf k ≤ at
+  pub types : w .types ≤ 4 * countOf k
+  pub literals : w .literals ≤ countOf k
+  pub nulls : w .nulls ≤ countOf k
+  pub values : w .values ≤ countOf k
+  pub composites : w .composites ≤ countOf k
+  pub parts : w .parts ≤ at
+  pub capabilities : w .capabilities ≤ at
+  pub names : w .names ≤ at
+  pub annotations : w .annotations ≤ 2 * at
+  pub declarations : w .declarations ≤ 3 * at
+  pub last : w .idgen .last ≤ 4294967295 + at
+
+module _ (s T S : List ℕ) (nr nb at : ℕ) (k : Counts) (w : Writer) (u : Used nr nb at k w) (f : Few k) (small : length s ≤ nb) (recs : (length s ≤ 3 * nr) ⊎ (576 ≤ nr))
+    (tables : 24 * nr + nb ≤ length T) (sections : 7 * nb ≤ length S) (short : length s ≤ 16384) where
+  pub no-room : at ≤ length s → Room nothing w T S
+  no-room inside = let e : countOf k ≤ nr = ⊎-elim (λ l. omega arith) (λ l. omega arith) recs in omega arith
+
+  module _ (n : Seen) (c : Counted n k) (l : ℕ) (least : 3 ≤ l) (inside : at + l ≤ length s) where
+    -- one more declared record
+    more-room : countOf k < 576 → Room (entryCost 3 l) w T S
+    more-room h = let e : countOf k + 1 ≤ nr = ⊎-elim (λ l. omega arith) (λ l. omega arith) recs in omega arith
+
+    abbrev Roomy : ℕ → Type 0
+    Roomy r = room n r ≡ true → Room (entryCost r l) w T S × ((v : Writer) → Grown (entryCost r l) w v → Used nr nb (at + l) (addCounts k r at) v)
+
+    roomy-1 : Roomy 1
+    unfolding addCounts
+    roomy-1 h = (no-room (omega arith), λ v g. omega arith)
+
+    roomy-2 : Roomy 2
+    unfolding addCounts
+    roomy-2 h = (no-room (omega arith), λ v g. omega arith)
+
+    roomy-3 : Roomy 3
+    unfolding addCounts
+    roomy-3 h = let q = rw (c .types) at (ltb-true (length (n .types)) 256 h) in (more-room (omega arith), λ v g. omega arith)
+
+    roomy-4 : Roomy 4
+    unfolding addCounts
+    roomy-4 h = let q = rw (c .constants) at (ltb-true (length (n .constants)) 256 h) in (more-room (omega arith), λ v g. omega arith)
+
+    roomy-5 : Roomy 5
+    unfolding addCounts
+    roomy-5 h = let q = rw (c .globals) at (ltb-true (length (n .globals)) 64 h) in (more-room (omega arith), λ v g. omega arith)
+
+    pub roomy : (r : ℕ) → 0 < r → r ≤ 5 → Roomy r
+    roomy = by-rank Roomy roomy-1 roomy-2 roomy-3 roomy-4 roomy-5

@@ -1,0 +1,67 @@
+-- A record's turn: what is asked before it, and what it promises.
+use Prim.Native.Nat.{ℕ, _+_, _≤_}
+use mathlib.Core.Path.{_≡_}
+use mathlib.Core.List.{List}
+use lib.Dec.{ltb}
+use lib.ListN.{length}
+use Rattle.definition.specs.Choice.{pick}
+use Rattle.definition.specs.Sheet.{Record, Options, optionsOf, recordAt, entryOf, tagRank}
+use Rattle.definition.specs.Tests.{Seen, readingTest}
+use Rattle.definition.specs.State.{State}
+use Rattle.definition.specs.Rules.{declareEntry}
+use Rattle.definition.specs.Unfit.{fitnessTest}
+use Rattle.definition.specs.Operations.{recordTest}
+use Rattle.records.specs.declared.Counts.{Counts}
+use Rattle.records.specs.Places.{typesFrom, availableFrom}
+use Rattle.sheet.specs.Reading.{Looked}
+use Rattle.zeroable.specs.Memo.{Memo}
+use Rattle.writer.specs.declared.Writer.{Writer}
+use Rattle.writer.specs.Cost.{Cost, nothing, recordCost}
+use Rattle.writer.specs.Held.{Held, Room, Grown}
+use Rattle.sheet_writer.specs.declared.Turn.{Turn}
+
+-- n is what was read: its counts, remaps and types, and what is available
+pub record Before (s rs ts : List ℕ) (k : Counts) (n : Seen) : Type 0 where
+  pub looked : Looked s rs ts k n
+  pub available : n .available ≡ availableFrom s (k .available)
+
+-- a record of n bytes and a rank: Available and Remap are not declared
+abbrev pub entryCost : ℕ → ℕ → Cost
+entryCost rank n = pick (ltb 2 rank) (recordCost n) nothing
+
+-- the cost of the record at the front of what is left
+abbrev pub costAt : List ℕ → Cost
+costAt rest = entryCost (tagRank (recordAt rest .tag)) (length (recordAt rest .body) + 3)
+
+-- what a turn asks: something was read before, the memo speaks of its types, and there is room for the record if it passes
+pub record Ready (s rs ts : List ℕ) (k : Counts) (rest T S m : List ℕ) (w : Writer) : Type 0 where
+  pub seen : Seen
+  pub before : Before s rs ts k seen
+  pub remaps : k .remaps ≤ length rs
+  pub types : k .types ≤ length ts
+  pub few : k .types ≤ 256
+  pub small : length rest ≤ 16384
+  pub memo : Memo (typesFrom s ts (k .types)) m
+  pub no-room : Room nothing w T S
+  pub room : readingTest seen (recordAt rest) ≡ 0 → Room (costAt rest) w T S
+
+-- the record at the front of what is left passed tests 5 to 12
+pub record Passed (s rs ts : List ℕ) (k : Counts) (rest : List ℕ) : Type 0 where
+  pub seen : Seen
+  pub before : Before s rs ts k seen
+  pub tested : readingTest seen (recordAt rest) ≡ 0
+
+-- tests 13 and 14, in whatever state is held
+abbrev pub FitnessTold : List ℕ → List ℕ → List ℕ → Counts → List ℕ → Writer → List ℕ → ℕ → Type 0
+FitnessTold s rs ts k rest w T r = (n : Seen) → Before s rs ts k n → (S : List ℕ) (x : State) → Held w T S x → r ≡ fitnessTest n x (entryOf (recordAt rest) .value)
+
+-- the record's entry is declared
+pub record EntryWritten (s rs ts : List ℕ) (k : Counts) (rest : List ℕ) (flags : ℕ) (w : Writer) (T S : List ℕ) (v : Writer) (T′ S′ : List ℕ) : Type 0 where
+  pub grown : Grown (costAt rest) w v
+  pub held : (n : Seen) → Before s rs ts k n → (x : State) → Held w T S x → Held v T′ S′ (declareEntry (optionsOf flags) n (entryOf (recordAt rest) .value) x)
+
+-- the turn whole: the number that the definition's test answers, and where that is 0 the entry is declared
+pub record Turned (s rs ts : List ℕ) (k : Counts) (rest : List ℕ) (flags : ℕ) (w : Writer) (T S : List ℕ) (r : Turn) (T′ S′ m′ : List ℕ) : Type 0 where
+  pub memo : Memo (typesFrom s ts (k .types)) m′
+  pub told : (n : Seen) → Before s rs ts k n → (x : State) → Held w T S x → r .refused ≡ recordTest (record { seen = n; state = x }) (recordAt rest)
+  pub written : r .refused ≡ 0 → EntryWritten s rs ts k rest flags w T S (r .writer) T′ S′

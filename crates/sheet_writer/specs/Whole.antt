@@ -1,0 +1,57 @@
+-- What a sheet comes to before its bound is looked at: the definition's loop over its records, behind tests 1 to 3.
+use Prim.Native.Nat.{ℕ, _+_, _*_, _≤_}
+use mathlib.Core.Path.{_≡_}
+use mathlib.Core.List.{List}
+use mathlib.Core.Logic.{_⊎_}
+use lib.ListN.{length, drop, getD}
+use mathlib.Core.Bool.{true}
+use Rattle.definition.specs.Sheet.{headerLength, startOf, flagsOf, optionsOf, global}
+use Rattle.definition.specs.Tests.{Seen, valuesFit, Judged, fit, refused, judge, headerTest, records, sheetMost, typesMost, constantsMost, globalsMost}
+use Rattle.definition.specs.Operations.{Progress, begin, recordTest, declareRecord, noGlobal}
+use Rattle.records.specs.declared.Counts.{Counts}
+use Rattle.records.specs.Places.{Places, seenOf, Ample, Few}
+use Rattle.writer.specs.declared.Writer.{Writer}
+use Rattle.writer.specs.Cost.{nothing}
+use Rattle.writer.specs.Held.{Held, Room}
+use Rattle.sheet_writer.specs.declared.Outcome.{Outcome}
+use Rattle.sheet_writer.specs.declared.Outcome.the-variants.{Refused, Fit}
+
+-- the records, tested and declared in the sheet's order
+abbrev pub recordsOf : List ℕ → Judged Progress
+recordsOf s = records recordTest (declareRecord (optionsOf (flagsOf s))) (length s) (drop headerLength s) (begin (startOf s))
+
+abbrev pub beforeBound : List ℕ → Judged Progress
+beforeBound s = judge (headerTest s) (recordsOf s)
+
+-- as many types, constants and globals as a sheet can have
+abbrev pub recordsMost : ℕ
+recordsMost = typesMost + constantsMost + globalsMost
+
+-- what the caller lends is enough for the sheet: a record takes three bytes at least
+pub record Capacity (s : List ℕ) (records bytes : ℕ) (T S m : List ℕ) : Type 0 where
+  pub for-bytes : length s ≤ sheetMost → length s ≤ bytes
+  pub for-records : (length s ≤ 3 * records) ⊎ (recordsMost ≤ records)
+  pub tables : 24 * records + bytes ≤ length T
+  pub sections : 7 * bytes ≤ length S
+  pub memo : (j : ℕ) → getD m j 0 ≡ 0
+
+-- the globals that were read passed test 10
+abbrev pub GlobalsFit : Seen → Type 0
+GlobalsFit n = (i : ℕ) → valuesFit (global (getD (n .globals) i noGlobal)) ≡ true
+
+-- what was read stands at the places, and the state that the definition comes to is held
+pub record Fits (s : List ℕ) (bytes : ℕ) (p : Places) (T S : List ℕ) (k : Counts) (w : Writer) : Type 0 where
+  pub progress : Progress
+  pub same : fit progress ≡ beforeBound s
+  pub seen : progress .seen ≡ seenOf s p k
+  pub globals : GlobalsFit (seenOf s p k)
+  pub held : Held w T S (progress .state)
+  pub ample : Ample p
+  pub few : Few k
+  pub room : Room nothing w T S
+  pub size : w .bytes ≡ bytes
+
+-- the answer is the definition's
+abbrev pub CameTo : List ℕ → ℕ → Places → List ℕ → List ℕ → Outcome → Type 0
+CameTo s bytes p T S (Refused n) = refused n ≡ beforeBound s
+CameTo s bytes p T S (Fit k w) = Fits s bytes p T S k w

@@ -1,0 +1,205 @@
+// The records of a sheet, each tested in the state that those before it left and then declared: what all three operations
+// share. It decides refusals in document 01's order: 13 at one record comes before 5 at the next. 15 is left to the operations.
+use records::Counts;
+use records::Place;
+use sheet::holding;
+use writer::Writer;
+ghost use mathlib.Core.Path.{_≡_};
+ghost use mathlib.Core.Bool.{true};
+ghost use mathlib.Core.List.{List};
+ghost use Prim.Native.Nat.{ℕ, _≤_};
+ghost use lib.ListN.{length};
+ghost use Rattle.definition.specs.Choice.{unless};
+ghost use Rattle.definition.specs.Bytes.{nameEnd};
+ghost use Rattle.definition.specs.Sheet.{recordAt, typeFields};
+ghost use Rattle.definition.specs.Tests.{innerFits};
+ghost use Rattle.definition.specs.Shapes.{shapeOf};
+ghost use Rattle.definition.specs.Unfit.{shapeAvailable};
+ghost use Rattle.records.specs.Places.{typesFrom, availableFrom, placesOf, Ample};
+ghost use Rattle.zeroable.specs.Memo.{Memo};
+ghost use Rattle.writer.specs.Cost.{nothing};
+ghost use Rattle.writer.specs.Held.{RoomIn, Room};
+ghost use Rattle.sheet_writer.specs.Turning.{costAt, Ready, Passed, FitnessTold, EntryWritten, Turned};
+ghost use Rattle.sheet_writer.specs.Whole.{Capacity, CameTo};
+
+// What a record's turn comes to: the number of the first test that fails, or 0 and the writer after its declaration.
+pub struct Turn {
+    pub refused: u8,
+    pub writer: Writer,
+}
+
+// What a sheet comes to, but for its bound: the number of its refusal, or what was read and the writer.
+pub enum Outcome {
+    Refused(u8),
+    Fit(Counts, Writer),
+}
+
+// Test 14 of a type.
+fn type_test(s: &[u8], available: Place, rest: &[u8]) -> u8
+    requires { ⌜ innerFits (typeFields (recordAt (now rest) .tag) (recordAt (now rest) .body) (nameEnd (recordAt (now rest) .body) 0) .value) ≡ true ⌝ }
+    ensures { λ r. ⌜ r ≡ unless (shapeAvailable (availableFrom (now (s .entry)) available) (shapeOf (typeFields (recordAt (now (rest .entry)) .tag) (recordAt (now (rest .entry)) .body) (nameEnd (recordAt (now (rest .entry)) .body) 0) .value))) 14 0 ⌝ }
+{
+    let t = entries::types::inner_of(records::tag_of(rest), records::body_of(rest));
+    if !availability::type_available(s, available, t) {
+        return 14;
+    }
+    0
+}
+
+// 13 where a record's entry does not fit.
+fn unfit(fits: bool) -> u8
+    ensures { λ r. ⌜ r ≡ unless fits 13 0 ⌝ }
+{
+    if !fits {
+        return 13;
+    }
+    0
+}
+
+// Tests 13 and 14 of the record at the front of what is left, which passed those before: the number that fails, or 0.
+fn fitness_test(
+    tables: &[u64],
+    memo: &mut [u8],
+    w: Writer,
+    s: &[u8],
+    remaps: &[u32],
+    types: &[u32],
+    k: Counts,
+    rest: &[u8],
+) -> u8
+    requires { ⌜ Passed (now s) (now remaps) (now types) k (now rest) × ((k .types ≤ length (now types)) × ((length (now rest) ≤ 16384) × (RoomIn nothing w (now tables) × Memo (typesFrom (now s) (now types) (k .types)) (now memo)))) ⌝ }
+    ensures { λ r. ⌜ FitnessTold (now (s .entry)) (now (remaps .entry)) (now (types .entry)) k (now (rest .entry)) w (now (tables .entry)) r × Memo (typesFrom (now (s .entry)) (now (types .entry)) (k .types)) (now (memo .exit)) ⌝ }
+{
+    match records::rank_of(records::tag_of(rest)) {
+        3 => {
+            let available = k.available;
+            type_test(s, available, rest)
+        }
+        4 => unfit(writer_constants::constant_fits(tables, w, s, types, k.types, memo, rest)),
+        5 => unfit(writer_globals::fitness::global_fits(tables, w, s, types, k.types, memo, rest)),
+        _ => 0,
+    }
+}
+
+// Declares the entry of the record at the front of what is left, which passed its tests.
+fn write_entry(
+    tables: &mut [u64],
+    sections: &mut [u32],
+    w: Writer,
+    s: &[u8],
+    remaps: &[u32],
+    types: &[u32],
+    k: Counts,
+    rest: &[u8],
+    flags: u8,
+) -> Writer
+    requires { ⌜ Passed (now s) (now remaps) (now types) k (now rest) × ((k .remaps ≤ length (now remaps)) × ((k .types ≤ length (now types)) × ((k .types ≤ 256) × ((length (now rest) ≤ 16384) × Room (costAt (now rest)) w (now tables) (now sections))))) ⌝ }
+    ensures { λ r. ⌜ EntryWritten (now (s .entry)) (now (remaps .entry)) (now (types .entry)) k (now (rest .entry)) flags w (now (tables .entry)) (now (sections .entry)) r (now (tables .exit)) (now (sections .exit)) ⌝ }
+{
+    match records::rank_of(records::tag_of(rest)) {
+        3 => writer_types::write_type_declaration_arena(
+            tables,
+            sections,
+            w,
+            s,
+            types,
+            k.types,
+            rest,
+            flags % 2 == 1,
+        ),
+        4 => writer_constants::write_constant(tables, sections, w, s, types, k.types, rest),
+        5 => writer_globals::write_global(
+            tables,
+            sections,
+            w,
+            s,
+            types,
+            k.types,
+            remaps,
+            k.remaps,
+            rest,
+            flags,
+        ),
+        _ => w,
+    }
+}
+
+// The turn of the record at the front of what is left: tests 5 to 14, then its declaration.
+fn record_turn(
+    tables: &mut [u64],
+    sections: &mut [u32],
+    memo: &mut [u8],
+    w: Writer,
+    s: &[u8],
+    remaps: &[u32],
+    types: &[u32],
+    k: Counts,
+    rest: &[u8],
+    flags: u8,
+) -> Turn
+    requires { ⌜ Ready (now s) (now remaps) (now types) k (now rest) (now tables) (now sections) (now memo) w ⌝ }
+    ensures { λ r. ⌜ Turned (now (s .entry)) (now (remaps .entry)) (now (types .entry)) k (now (rest .entry)) flags w (now (tables .entry)) (now (sections .entry)) r (now (tables .exit)) (now (sections .exit)) (now (memo .exit)) ⌝ }
+{
+    let r = sheet::record_test(s, remaps, types, k, rest);
+    if r != 0 {
+        return Turn {
+            refused: r,
+            writer: w,
+        };
+    }
+    let f = fitness_test(tables, memo, w, s, remaps, types, k, rest);
+    if f != 0 {
+        return Turn {
+            refused: f,
+            writer: w,
+        };
+    }
+    let v = write_entry(tables, sections, w, s, remaps, types, k, rest, flags);
+    Turn {
+        refused: 0,
+        writer: v,
+    }
+}
+
+// A sheet whole, but for its bound: tests 1 to 3, then its records in their order. Where they stand is left in the four slices of
+// places; `nrecords` and `nbytes` say for how large a sheet the tables and the sections have room.
+pub fn write_sheet(
+    tables: &mut [u64],
+    sections: &mut [u32],
+    memo: &mut [u8],
+    remaps: &mut [u32],
+    types: &mut [u32],
+    constants: &mut [u32],
+    globals: &mut [u32],
+    s: &[u8],
+    nrecords: usize,
+    nbytes: usize,
+) -> Outcome
+    requires { ⌜ Capacity (now s) nrecords nbytes (now tables) (now sections) (now memo) × Ample (placesOf (now remaps) (now types) (now constants) (now globals)) ⌝ }
+    ensures { λ r. ⌜ CameTo (now (s .entry)) nbytes (placesOf (now (remaps .exit)) (now (types .exit)) (now (constants .exit)) (now (globals .exit))) (now (tables .exit)) (now (sections .exit)) r ⌝ }
+{
+    let h = records::header_test(s);
+    if h != 0 {
+        return Outcome::Refused(h);
+    }
+    let flags = fields::u8_at(s, 5);
+    let mut w = writer::new(nrecords, nbytes, fields::u32_at(s, 1) as u64);
+    let mut at = records::HEADER;
+    let mut k = holding::nothing();
+    while at < s.len() {
+        let rest = records::rest_at(s, at);
+        if records::no_record(rest) {
+            return Outcome::Refused(4);
+        }
+        let t = record_turn(tables, sections, memo, w, s, remaps, types, k, rest, flags);
+        let r = t.refused;
+        if r != 0 {
+            return Outcome::Refused(r);
+        }
+        let v = t.writer;
+        w = v;
+        k = holding::hold(s, remaps, types, constants, globals, k, at);
+        at = records::next_place(rest, at);
+    }
+    Outcome::Fit(k, w)
+}

@@ -1,0 +1,62 @@
+-- The stride that the facet says, of the type itself or of what it is an array of; which of the two, the facet says too.
+use mathlib.Core.Path.{sym, ap, _∙_}
+use borrow.Author.Needs.{needs}
+use Rattle.definition.specs.Rules.{innerAt, matrixStride}
+use Rattle.records.specs.Places.{typesFrom}
+use Rattle.type_facts.proofs.Laws.{stride, element, elementBy}
+use Rattle.type_facts.specs.Facets.{strideIn, elementIn, numberOf, indexOf}
+use Rattle.type_facts.proofs.element_stride.Statement.{statement}
+use Rattle.type_facts.proofs.element_stride.Tie as tie
+
+facet-at-requires : tie.Need-facet-at-requires
+facet-at-requires c κs = search needs
+
+element-in-requires : tie.Need-element-in-requires
+element-in-requires c κs = search needs
+
+enum-told : tie.Need-enum-told
+enum-told c = search needs
+
+stride-in-requires : tie.Need-stride-in-requires
+stride-in-requires c κs = search needs
+
+enum-known-b : tie.Need-enum-known-b
+enum-known-b c = search needs
+
+cast-facet-at : tie.Need-cast-facet-at
+cast-facet-at c = search needs
+
+facet-at-requires-2 : tie.Need-facet-at-requires-2
+facet-at-requires-2 c κs = search needs
+
+stride-in-requires-2 : tie.Need-stride-in-requires-2
+stride-in-requires-2 c κs = search needs
+
+returns : tie.Need-returns
+returns c = let a = c .before .before .before .before .before .before .before .args in
+    let ts = typesFrom (a .s .now) (a .types .now) (a .n) in
+    let i = innerAt ts (a .i) in
+    let e = sym (ap elementIn (c .before .before .before .before .facet-at .ensures)) ∙ sym (c .before .before .before .element-in .ensures) ∙ c .before .enum-told .given .1 in
+    ap numberOf (c .stride-in .ensures ∙ ap strideIn (c .before .before .before .before .facet-at .ensures)) ∙ sym (stride i) ∙ sym (ap matrixStride (element ts i ∙ ap (λ x. elementBy ts i (indexOf x)) e))
+
+returns-2 : tie.Need-returns-2
+returns-2 c = let a = c .before .before .before .before .before .before .before .before .before .args in
+    let ts = typesFrom (a .s .now) (a .types .now) (a .n) in
+    let i = innerAt ts (a .i) in
+    let e = sym (ap elementIn (c .before .before .before .before .before .before .facet-at .ensures)) ∙ sym (c .before .before .before .before .before .element-in .ensures) ∙ c .before .before .before .b .given .1 in
+    ap numberOf (c .stride-in2 .ensures ∙ ap strideIn (c .before .facet-at2 .ensures)) ∙ sym (stride (innerAt ts (c .before .before .before .b .given .0 .0))) ∙ sym (ap matrixStride (element ts i ∙ ap (λ x. elementBy ts i (indexOf x)) e))
+
+pub element-stride-spec : {M : Type 1} → statement M
+element-stride-spec =
+    tie.close
+    (tie.spec
+    facet-at-requires
+    element-in-requires
+    enum-told
+    stride-in-requires
+    enum-known-b
+    cast-facet-at
+    facet-at-requires-2
+    stride-in-requires-2
+    returns
+    returns-2)

@@ -1,0 +1,146 @@
+-- An arm for each tag: with its number put in, the definition's choice computes to that arm, of the bytes that were read.
+-- Where no tag fits, all of its tests fail, and a BindingArray is left. All else that is asked here is that a field's place
+-- fits a usize, which is so because a name ends within the first 256 bytes.
+use borrow.Author.Tests.{ne-eqb}
+use borrow.Author.Needs.{needs}
+use Rattle.definition.specs.Sheet.{typeFields}
+use Rattle.type_facts.proofs.facets.facet_of.Statement.{statement}
+use Rattle.type_facts.proofs.facets.facet_of.Tie as tie
+
+name-end-requires : tie.Need-name-end-requires
+name-end-requires c κs = search needs
+
+add-u8-at : tie.Need-add-u8-at
+add-u8-at c = search needs
+
+u8-at-requires : tie.Need-u8-at-requires
+u8-at-requires c κs = search needs
+
+cast-matrix-stride : tie.Need-cast-matrix-stride
+cast-matrix-stride c = search needs
+
+add-u8-at-2 : tie.Need-add-u8-at-2
+add-u8-at-2 c = search needs
+
+u8-at-requires-2 : tie.Need-u8-at-requires-2
+u8-at-requires-2 c κs = search needs
+
+cast-matrix-stride-2 : tie.Need-cast-matrix-stride-2
+cast-matrix-stride-2 c = search needs
+
+matrix-stride-requires : tie.Need-matrix-stride-requires
+matrix-stride-requires c κs = search needs
+
+u16-at-requires : tie.Need-u16-at-requires
+u16-at-requires c κs = search needs
+
+add-u32-at : tie.Need-add-u32-at
+add-u32-at c = search needs
+
+u32-at-requires : tie.Need-u32-at-requires
+u32-at-requires c κs = search needs
+
+add-u8-at-3 : tie.Need-add-u8-at-3
+add-u8-at-3 c = search needs
+
+u8-at-requires-3 : tie.Need-u8-at-requires-3
+u8-at-requires-3 c κs = search needs
+
+add-u8-at-4 : tie.Need-add-u8-at-4
+add-u8-at-4 c = search needs
+
+u8-at-requires-4 : tie.Need-u8-at-requires-4
+u8-at-requires-4 c κs = search needs
+
+image-facet-requires : tie.Need-image-facet-requires
+image-facet-requires c κs = search needs
+
+u16-at-requires-2 : tie.Need-u16-at-requires-2
+u16-at-requires-2 c κs = search needs
+
+returns : tie.Need-returns
+unfolding typeFields
+returns c = simp (c .match .keys1)
+
+returns-2 : tie.Need-returns-2
+unfolding typeFields
+returns-2 c = simp (c .match .keys2)
+
+returns-3 : tie.Need-returns-3
+unfolding typeFields
+returns-3 c = simp (c .before .before .before .match .keys3, c .matrix-stride .ensures, c .before .before .u8-at .ensures, c .before .u8-at2 .ensures, c .before .before .before .before .name-end .ensures .0)
+
+returns-4 : tie.Need-returns-4
+unfolding typeFields
+returns-4 c = simp (c .match .keys4)
+
+returns-5 : tie.Need-returns-5
+unfolding typeFields
+returns-5 c = simp (c .match .keys5)
+
+returns-6 : tie.Need-returns-6
+unfolding typeFields
+returns-6 c = simp (c .match .keys6)
+
+returns-7 : tie.Need-returns-7
+unfolding typeFields
+returns-7 c = simp (c .before .before .match .keys7, c .before .u16-at .ensures, c .u32-at .ensures, c .before .before .before .name-end .ensures .0)
+
+returns-8 : tie.Need-returns-8
+unfolding typeFields
+returns-8 c = simp (c .match .keys8)
+
+returns-9 : tie.Need-returns-9
+unfolding typeFields
+returns-9 c = simp (c .before .before .before .match .keys9, c .image-facet .ensures, c .before .before .u8-at3 .ensures, c .before .u8-at4 .ensures, c .before .before .before .before .name-end .ensures .0)
+
+returns-10 : tie.Need-returns-10
+unfolding typeFields
+returns-10 c = simp (c .match .keys10)
+
+returns-11 : tie.Need-returns-11
+unfolding typeFields
+returns-11 c = simp (c .match .keys11)
+
+returns-12 : tie.Need-returns-12
+unfolding typeFields
+returns-12 c = simp (c .match .keys12)
+
+returns-13 : tie.Need-returns-13
+unfolding typeFields
+returns-13 c = let r = c .before .match .rest in simp (ne-eqb _ _ (r .0 .0 .0 .0 .0 .0 .0 .0 .0 .0 .0 .1), ne-eqb _ _ (r .0 .0 .0 .0 .0 .0 .0 .0 .0 .0 .1), ne-eqb _ _ (r .0 .0 .0 .0 .0 .0 .0 .0 .0 .1), ne-eqb _ _ (r .0 .0 .0 .0 .0 .0 .0 .0 .1), ne-eqb _ _ (r .0 .0 .0 .0 .0 .0 .0 .1), ne-eqb _ _ (r .0 .0 .0 .0 .0 .0 .1), ne-eqb _ _ (r .0 .0 .0 .0 .0 .1), ne-eqb _ _ (r .0 .0 .0 .0 .1), ne-eqb _ _ (r .0 .0 .0 .1), ne-eqb _ _ (r .0 .0 .1), ne-eqb _ _ (r .0 .1), ne-eqb _ _ (r .1), c .u16-at2 .ensures, c .before .before .name-end .ensures .0)
+
+pub facet-of-spec : {M : Type 1} → statement M
+facet-of-spec =
+    tie.close
+    (tie.spec
+    name-end-requires
+    add-u8-at
+    u8-at-requires
+    cast-matrix-stride
+    add-u8-at-2
+    u8-at-requires-2
+    cast-matrix-stride-2
+    matrix-stride-requires
+    u16-at-requires
+    add-u32-at
+    u32-at-requires
+    add-u8-at-3
+    u8-at-requires-3
+    add-u8-at-4
+    u8-at-requires-4
+    image-facet-requires
+    u16-at-requires-2
+    returns
+    returns-2
+    returns-3
+    returns-4
+    returns-5
+    returns-6
+    returns-7
+    returns-8
+    returns-9
+    returns-10
+    returns-11
+    returns-12
+    returns-13)

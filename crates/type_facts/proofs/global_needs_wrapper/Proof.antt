@@ -1,0 +1,30 @@
+-- The space is tested first, then the type, as in the definition.
+use mathlib.Core.Bool.{_&&_}
+use mathlib.Core.Path.{sym, ap, _∙_}
+use borrow.Author.Tests.{not-true, not-false}
+use borrow.Author.Needs.{needs}
+use Rattle.definition.specs.Rules.{innerAt, wrapsType}
+use Rattle.records.specs.Places.{typesFrom}
+use Rattle.type_facts.proofs.Laws.{wrapper}
+use Rattle.type_facts.proofs.global_needs_wrapper.Statement.{statement}
+use Rattle.type_facts.proofs.global_needs_wrapper.Tie as tie
+
+wraps-space-requires : tie.Need-wraps-space-requires
+wraps-space-requires c κs = search needs
+
+returns : tie.Need-returns
+returns c = λ g et es. let a = c .before .before .before .before .args in
+    let ts = typesFrom (a .s .now) (a .types .now) (a .n) in
+    sym (wrapper ts (a .i) (a .space) g et es ∙ ap (λ x. x && wrapsType ts (innerAt ts (a .i))) (sym (c .before .wraps-space .ensures) ∙ not-true _ (c .if1 .taken)))
+
+wraps-type-requires : tie.Need-wraps-type-requires
+wraps-type-requires c κs = search needs
+
+returns-2 : tie.Need-returns-2
+returns-2 c = λ g et es. let a = c .before .before .before .before .before .args in
+    let ts = typesFrom (a .s .now) (a .types .now) (a .n) in
+    c .wraps-type .ensures ∙ sym (wrapper ts (a .i) (a .space) g et es ∙ ap (λ x. x && wrapsType ts (innerAt ts (a .i))) (sym (c .before .before .wraps-space .ensures) ∙ not-false _ (c .before .if1 .left)))
+
+pub global-needs-wrapper-spec : {M : Type 1} → statement M
+global-needs-wrapper-spec =
+    tie.close (tie.spec wraps-space-requires returns wraps-type-requires returns-2)

@@ -1,0 +1,153 @@
+// Facets: a type as far as the rules ask of it. A type is read by its tag here and nowhere else; each question is then put
+// to its facet.
+use crate::Access;
+use crate::Base;
+use crate::Number;
+use spirv::layouter::matrix_stride;
+ghost use mathlib.Core.Path.{_≡_};
+ghost use Prim.Native.Nat.{_≤_};
+ghost use lib.ListN.{length};
+ghost use Rattle.definition.specs.Bytes.{nameEnd};
+ghost use Rattle.definition.specs.Sheet.{typeFields};
+ghost use Rattle.definition.specs.Rules.{innerAt};
+ghost use Rattle.records.specs.Places.{typesFrom};
+ghost use Rattle.type_facts.specs.Facets.{facetOf, imageFacet, dynamicIn, strideIn, elementIn, accessIn, baseIn, pointerIn};
+
+// A type as far as the rules ask of it.
+pub enum Facet {
+    Matrix { stride: u32 },
+    Array { base: u16, dynamic: bool },
+    Struct,
+    StorageImage { access: u8 },
+    Pointer,
+    BindingArray { base: u16 },
+    Other,
+}
+
+// Of an image with a class byte and its second byte, which is a storage image's access.
+fn image_facet(class: u8, access: u8) -> Facet
+    ensures { λ r. ⌜ r ≡ imageFacet class access ⌝ }
+{
+    if class == 2 {
+        return Facet::StorageImage { access };
+    }
+    Facet::Other
+}
+
+// Of a type with a tag and a body. Other are Scalar, Vector, Atomic, Sampler, AccelerationStructure and RayQuery. What has
+// no tag of these is a BindingArray, here as in the definition: test 5 lets no tag through that is no type's.
+pub fn facet_of(tag: u8, b: &[u8]) -> Facet
+    ensures { λ r. ⌜ r ≡ facetOf (typeFields tag (now (b .entry)) (nameEnd (now (b .entry)) 0) .value) ⌝ }
+{
+    let at = fields::name_end(b, 0);
+    match tag {
+        16 => Facet::Other,
+        17 => Facet::Other,
+        18 => Facet::Matrix {
+            stride: matrix_stride(
+                fields::u8_at(b, at + 1) as u32,
+                fields::u8_at(b, at + 2) as u32,
+            ),
+        },
+        19 => Facet::Other,
+        20 => Facet::Pointer,
+        21 => Facet::Pointer,
+        22 => Facet::Array {
+            base: fields::u16_at(b, at),
+            dynamic: fields::u32_at(b, at + 2) == 0,
+        },
+        23 => Facet::Struct,
+        24 => image_facet(fields::u8_at(b, at + 2), fields::u8_at(b, at + 4)),
+        25 => Facet::Other,
+        26 => Facet::Other,
+        27 => Facet::Other,
+        _ => Facet::BindingArray {
+            base: fields::u16_at(b, at),
+        },
+    }
+}
+
+// Of type i of the first n.
+pub fn facet_at(s: &[u8], types: &[u32], n: usize, i: usize) -> Facet
+    requires { ⌜ n ≤ length (now types) ⌝ }
+    ensures { λ r. ⌜ r ≡ facetOf (innerAt (typesFrom (now (s .entry)) (now (types .entry)) n) i) ⌝ }
+{
+    if n <= i {
+        return Facet::Other;
+    }
+    let rest = entries::entry_at(s, types, i);
+    facet_of(records::tag_of(rest), records::body_of(rest))
+}
+
+// Whether it is a dynamic array.
+pub fn dynamic_in(f: Facet) -> bool
+    ensures { λ r. ⌜ r ≡ dynamicIn f ⌝ }
+{
+    match f {
+        Facet::Matrix { stride: _ } => false,
+        Facet::Array { base: _, dynamic } => dynamic,
+        Facet::Struct => false,
+        Facet::StorageImage { access: _ } => false,
+        Facet::Pointer => false,
+        Facet::BindingArray { base: _ } => false,
+        Facet::Other => false,
+    }
+}
+
+// The column stride of a matrix.
+pub fn stride_in(f: Facet) -> Number
+    ensures { λ r. ⌜ r ≡ strideIn f ⌝ }
+{
+    let Facet::Matrix { stride } = f else {
+        return Number::Nothing;
+    };
+    Number::Of(stride)
+}
+
+// The access of a storage image.
+pub fn access_in(f: Facet) -> Access
+    ensures { λ r. ⌜ r ≡ accessIn f ⌝ }
+{
+    let Facet::StorageImage { access } = f else {
+        return Access::Nothing;
+    };
+    Access::Of(access)
+}
+
+// The base of a BindingArray.
+pub fn base_in(f: Facet) -> Base
+    ensures { λ r. ⌜ r ≡ baseIn f ⌝ }
+{
+    let Facet::BindingArray { base } = f else {
+        return Base::Nothing;
+    };
+    Base::Of(base)
+}
+
+// The base of an Array.
+pub fn element_in(f: Facet) -> Base
+    ensures { λ r. ⌜ r ≡ elementIn f ⌝ }
+{
+    let Facet::Array { base, dynamic: _ } = f else {
+        return Base::Nothing;
+    };
+    Base::Of(base)
+}
+
+// Whether it is a Pointer or a ValuePointer.
+pub fn pointer_in(f: Facet) -> bool
+    ensures { λ r. ⌜ r ≡ pointerIn f ⌝ }
+{
+    match f {
+        Facet::Matrix { stride: _ } => false,
+        Facet::Array {
+            base: _,
+            dynamic: _,
+        } => false,
+        Facet::Struct => false,
+        Facet::StorageImage { access: _ } => false,
+        Facet::Pointer => true,
+        Facet::BindingArray { base: _ } => false,
+        Facet::Other => false,
+    }
+}

@@ -1,0 +1,136 @@
+-- The frame law of regions: what is written in one leaves the others, and stands behind what its own region had.
+use Prim.Native.Nat.{ℕ, zero, suc, _+_, _*_, _-_, _≤_, _<_}
+use mathlib.Core.Path.{_≡_, refl, sym, ap, _∙_}
+use mathlib.Core.List.{List, [], _∷_, _++_, append-assoc, append-nil}
+use native.Mathlib.Numerals.{add-one}
+use native.Mathlib.Omega.{arith}
+use lib.ListN.{length, getD, take, drop, length-append, length-take, length-drop, List·getD-append}
+use lib.Seq.{length-take-le, getD-take, getD-drop, getD-append-add, ext-getD, take-add, drop-drop, take-at, drop-at, drop-append-add}
+use Rattle.spirv.specs.Sections.{splice}
+use Rattle.writer.specs.Rows.{Row, row, rows, part}
+
+-- the lists have the same elements in a region
+abbrev pub Agree : List ℕ → List ℕ → ℕ → ℕ → Type 0
+Agree xs ys b n = (j : ℕ) → b ≤ j → j < b + n → getD ys j 0 ≡ getD xs j 0
+
+module _ (xs : List ℕ) (p : ℕ) (ws : List ℕ) (room : p + length ws ≤ length xs) where
+  head-length : length (take p xs ++ ws) ≡ p + length ws
+  head-length = simp (length-append, length-take-le p xs (omega arith))
+
+  pub splice-length : length (splice xs p ws) ≡ length xs
+  splice-length = simp (length-append, length-take-le p xs (omega arith), length-drop) (omega arith)
+
+  before : (j : ℕ) → j < p → getD (splice xs p ws) j 0 ≡ getD xs j 0
+  before j h =
+      let l = length-take-le p xs (omega arith) in
+      List·getD-append (take p xs ++ ws) (drop (p + length ws) xs) 0 j (omega (arith, head-length))
+      ∙ List·getD-append (take p xs) ws 0 j (omega arith) ∙ getD-take p xs j 0 h
+
+  pub behind : (j : ℕ) → p + length ws ≤ j → getD (splice xs p ws) j 0 ≡ getD xs j 0
+  behind j h =
+      let e : j ≡ length (take p xs ++ ws) + (j - (p + length ws)) = omega (arith, head-length) in
+      let f : p + length ws + (j - (p + length ws)) ≡ j = omega arith in
+      ap (λ (k : ℕ). getD (splice xs p ws) k 0) e
+      ∙ getD-append-add (take p xs ++ ws) (drop (p + length ws) xs) (j - (p + length ws)) 0
+      ∙ getD-drop (p + length ws) xs (j - (p + length ws)) 0
+      ∙ ap (λ (k : ℕ). getD xs k 0) f
+
+  pub inside : (k : ℕ) → k < length ws → getD (splice xs p ws) (p + k) 0 ≡ getD ws k 0
+  inside k h =
+      let l : length (take p xs) ≡ p = length-take-le p xs (omega arith) in
+      let e : p + k ≡ length (take p xs) + k = omega arith in
+      List·getD-append (take p xs ++ ws) (drop (p + length ws) xs) 0 (p + k) (omega (arith, head-length))
+      ∙ ap (λ (j : ℕ). getD (take p xs ++ ws) j 0) e ∙ getD-append-add (take p xs) ws k 0
+
+  -- a region on the left, and one on the right, of what is written
+  pub left : (b n : ℕ) → b + n ≤ p → Agree xs (splice xs p ws) b n
+  left b n h j l r = before j (omega arith)
+
+  pub right : (b n : ℕ) → p + length ws ≤ b → Agree xs (splice xs p ws) b n
+  right b n h j l r = behind j (omega arith)
+
+take-drop : (n : ℕ) (l : List ℕ) → take n l ++ drop n l ≡ l
+take-drop zero l = refl
+take-drop (suc n) [] = refl
+take-drop (suc n) (x ∷ l) = ap (λ (m : List ℕ). x ∷ m) (take-drop n l)
+
+-- nothing is written
+pub splice-none : (xs : List ℕ) (p : ℕ) → xs ≡ splice xs p []
+splice-none xs p =
+    let e : p + 0 ≡ p = omega arith in
+    sym (ap (λ (l : List ℕ). l ++ drop (p + 0) xs) (append-nil (take p xs)) ∙ ap (λ (j : ℕ). take p xs ++ drop j xs) e ∙ take-drop p xs)
+
+-- what is written behind what was written is written with it
+pub splice-splice : (xs : List ℕ) (p : ℕ) (ws : List ℕ) (q : ℕ) (vs : List ℕ) → q ≡ p + length ws → q + length vs ≤ length xs → splice (splice xs p ws) q vs ≡ splice xs p (ws ++ vs)
+splice-splice xs p ws q vs e room =
+    let h : length (take p xs ++ ws) ≡ q = simp (length-append, length-take-le p xs (omega arith)) (omega arith) in
+    let f : p + length ws + length vs ≡ p + length (ws ++ vs) = simp length-append (omega arith) in
+    let g : q + length vs ≡ length (take p xs ++ ws) + length vs = omega arith in
+    let a : take q (splice xs p ws) ≡ take p xs ++ ws = take-at (take p xs ++ ws) (drop (p + length ws) xs) q h in
+    let b : drop (q + length vs) (splice xs p ws) ≡ drop (p + length (ws ++ vs)) xs =
+    ap (λ (j : ℕ). drop j (splice xs p ws)) g ∙ drop-append-add (take p xs ++ ws) (drop (p + length ws) xs) (length vs)
+    ∙ drop-drop (length vs) (p + length ws) xs ∙ ap (λ (j : ℕ). drop j xs) f in
+    (λ i. (a i ++ vs) ++ b i) ∙ ap (λ (l : List ℕ). l ++ drop (p + length (ws ++ vs)) xs) (append-assoc (take p xs) ws vs)
+
+-- ---- rows
+
+pub rows-agree : (xs ys : List ℕ) (b n : ℕ) → Agree xs ys b (3 * n) → rows ys b n ≡ rows xs b n
+unfolding rows
+rows-agree xs ys b zero h = refl
+rows-agree xs ys b (suc n) h =
+    let p = h b (omega arith) (omega arith) in
+    let q = h (b + 1) (omega arith) (omega arith) in
+    let r = h (b + 2) (omega arith) (omega arith) in
+    let t = rows-agree xs ys (b + 3) n (λ j l u. h j (omega arith) (omega arith)) in
+    λ i. row (p i) (q i) (r i) ∷ t i
+
+rows-last : (ys : List ℕ) (b n : ℕ) → rows ys b (suc n) ≡ rows ys b n ++ row (getD ys (b + 3 * n) 0) (getD ys (b + 3 * n + 1) 0) (getD ys (b + 3 * n + 2) 0) ∷ []
+unfolding rows
+rows-last ys b zero =
+    let e : b ≡ b + 3 * 0 = omega arith in
+    ap (λ (j : ℕ). row (getD ys j 0) (getD ys (j + 1) 0) (getD ys (j + 2) 0) ∷ []) e
+rows-last ys b (suc n) =
+    let e : b + 3 + 3 * n ≡ b + 3 * suc n = omega arith in
+    let t = rows-last ys (b + 3) n ∙ ap (λ (j : ℕ). rows ys (b + 3) n ++ row (getD ys j 0) (getD ys (j + 1) 0) (getD ys (j + 2) 0) ∷ []) e in
+    ap (λ (l : List Row). row (getD ys b 0) (getD ys (b + 1) 0) (getD ys (b + 2) 0) ∷ l) t
+
+-- one row more
+pub rows-more : (xs : List ℕ) (b n p a c i : ℕ) → p ≡ b + 3 * n → p + 3 ≤ length xs
+    → rows (splice xs p (a ∷ c ∷ i ∷ [])) b (n + 1) ≡ rows xs b n ++ row a c i ∷ []
+rows-more xs b n p a c i e h =
+    let ws = a ∷ c ∷ i ∷ [] in
+    let ys = splice xs p ws in
+    let k : rows ys b n ≡ rows xs b n = rows-agree xs ys b n (left xs p ws h b (3 * n) (omega arith)) in
+    let z : b + 3 * n ≡ p + 0 = omega arith in
+    let u : b + 3 * n + 1 ≡ p + 1 = omega arith in
+    let v : b + 3 * n + 2 ≡ p + 2 = omega arith in
+    let q0 : getD ys (b + 3 * n) 0 ≡ a = ap (λ (j : ℕ). getD ys j 0) z ∙ inside xs p ws h 0 (omega arith) in
+    let q1 : getD ys (b + 3 * n + 1) 0 ≡ c = ap (λ (j : ℕ). getD ys j 0) u ∙ inside xs p ws h 1 (omega arith) in
+    let q2 : getD ys (b + 3 * n + 2) 0 ≡ i = ap (λ (j : ℕ). getD ys j 0) v ∙ inside xs p ws h 2 (omega arith) in
+    ap (rows ys b) (add-one n) ∙ rows-last ys b n ∙ (λ t. k t ++ row (q0 t) (q1 t) (q2 t) ∷ [])
+
+-- ---- words
+
+pub part-agree : (xs ys : List ℕ) (b n : ℕ) → length ys ≡ length xs → Agree xs ys b n → part ys b n ≡ part xs b n
+part-agree xs ys b n l h =
+    ext-getD 0 (part ys b n) (part xs b n) (simp (length-take, length-drop, l))
+    (λ j r.
+    let m : j < n = omega (arith, simp (length-take, length-drop) at r) in
+    getD-take n (drop b ys) j 0 m ∙ getD-drop b ys j 0 ∙ h (b + j) (omega arith) (omega arith)
+    ∙ sym (getD-drop b xs j 0) ∙ sym (getD-take n (drop b xs) j 0 m))
+
+pub part-left : (xs : List ℕ) (p : ℕ) (ws : List ℕ) → p + length ws ≤ length xs → (b n : ℕ) → b + n ≤ p → part (splice xs p ws) b n ≡ part xs b n
+part-left xs p ws room b n h = part-agree xs (splice xs p ws) b n (splice-length xs p ws room) (left xs p ws room b n h)
+
+pub part-right : (xs : List ℕ) (p : ℕ) (ws : List ℕ) → p + length ws ≤ length xs → (b n : ℕ) → p + length ws ≤ b → part (splice xs p ws) b n ≡ part xs b n
+part-right xs p ws room b n h = part-agree xs (splice xs p ws) b n (splice-length xs p ws room) (right xs p ws room b n h)
+
+-- words more
+pub part-more : (xs : List ℕ) (b n p : ℕ) (ws : List ℕ) → p ≡ b + n → p + length ws ≤ length xs → part (splice xs p ws) b (n + length ws) ≡ part xs b n ++ ws
+part-more xs b n p ws e room =
+    let ys = splice xs p ws in
+    let d : drop n (drop b ys) ≡ ws ++ drop (p + length ws) xs =
+    drop-drop n b ys ∙ ap (λ (j : ℕ). drop j ys) (sym e) ∙ ap (drop p) (append-assoc (take p xs) ws (drop (p + length ws) xs))
+    ∙ drop-at (take p xs) (ws ++ drop (p + length ws) xs) p (length-take-le p xs (omega arith)) in
+    take-add n (length ws) (drop b ys)
+    ∙ (λ t. part-left xs p ws room b n (omega arith) t ++ (ap (take (length ws)) d ∙ take-at ws (drop (p + length ws) xs) (length ws) refl) t)

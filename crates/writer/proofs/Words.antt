@@ -1,0 +1,289 @@
+-- Words put behind those of a section, and capabilities listed.
+use Prim.Native.Nat.{ℕ, zero, suc, _+_, _*_, _-_, _≤_, _<_, _%_}
+use mathlib.Core.Path.{_≡_, refl, sym, ap, _∙_, subst}
+use mathlib.Core.Bool.{Bool, true, false}
+use mathlib.Core.List.{List, [], _∷_, _++_, append-assoc, append-nil, map}
+use native.Mathlib.Omega.{arith}
+use native.Mathlib.Numerals.{add-one}
+use lib.Dec.{eqb}
+use lib.ListN.{length, getD, take, drop, length-append, length-drop}
+use lib.Seq.{slice, slice-cons, slice-empty, length-take-le, take-suc, take-add, getD-drop, drop-drop}
+use borrow.Author.Tests.{eq-eqb, ne-eqb}
+use Rattle.definition.specs.Choice.{pick}
+use Rattle.definition.specs.Instructions.{Instruction, words, allWords, plain, constantComposite}
+use Rattle.spirv.specs.Heads.{compositeHead}
+use Rattle.definition.specs.State.{State, declare, annotate, occurrences, same, listOne, listed}
+use Rattle.spirv.specs.Put.{Put}
+use Rattle.spirv.specs.Sections.{splice}
+use Rattle.spirv.proofs.Puts as Puts
+use Rattle.lookup.specs.Local.{asList}
+use Rattle.writer.specs.declared.Writer.{Writer}
+use Rattle.writer.specs.Rows.{part, low, isListed}
+use Rattle.writer.specs.Regions.{sectionAt, Section, names, annotations, declarations, used, more, addTo}
+use Rattle.writer.specs.Cost.{capabilitiesOf, declaring, wordsIn}
+use Rattle.writer.specs.Held.{Sections, tablesOf, sectionsOf, sectionsIn, wordsOf, Held, RoomFor}
+use Rattle.writer.specs.Steps.{Spelt, Adds, Puts as PutsOne, Listed, Pending, Committed}
+use Rattle.writer.proofs.Regions.{part-left, part-right, part-more, splice-splice}
+
+map-append : (xs ys : List ℕ) → map low (xs ++ ys) ≡ map low xs ++ map low ys
+map-append [] ys = refl
+map-append (x ∷ xs) ys = ap (λ (l : List ℕ). low x ∷ l) (map-append xs ys)
+
+all-snoc : (is : List Instruction) (i : Instruction) → allWords is ++ words i ≡ allWords (is ++ i ∷ [])
+unfolding allWords
+all-snoc [] i = sym (append-nil (words i))
+all-snoc (j ∷ is) i = append-assoc (words j) (allWords is) (words i) ∙ ap (λ (l : List ℕ). words j ++ l) (all-snoc is i)
+
+-- one instruction more
+pub words-snoc : (is : List Instruction) (i : Instruction) → wordsOf is ++ map low (words i) ≡ wordsOf (is ++ i ∷ [])
+words-snoc is i = sym (map-append (allWords is) (words i)) ∙ ap (map low) (all-snoc is i)
+
+-- ---- an instruction goes behind those in its section
+
+abbrev pub moreCapabilities : Writer → ℕ → Writer
+moreCapabilities w n = record { records = w .records; bytes = w .bytes; idgen = w .idgen; types = w .types; literals = w .literals; nulls = w .nulls; values = w .values; composites = w .composites; parts = w .parts; capabilities = w .capabilities + n; names = w .names; annotations = w .annotations; declarations = w .declarations }
+
+-- words behind those of a section
+abbrev append : Section → List ℕ → Sections → Sections
+append names ws t = record { capabilities = t .capabilities; names = t .names ++ ws; annotations = t .annotations; declarations = t .declarations }
+append annotations ws t = record { capabilities = t .capabilities; names = t .names; annotations = t .annotations ++ ws; declarations = t .declarations }
+append declarations ws t = record { capabilities = t .capabilities; names = t .names; annotations = t .annotations; declarations = t .declarations ++ ws }
+
+-- what the words of one more instruction make of a state's sections
+append-in : (b : Section) (i : Instruction) (ws : List ℕ) → Spelt i ws → (s : State) → append b ws (sectionsIn s) ≡ sectionsIn (addTo b i s)
+unfolding listed
+append-in names i ws e s = λ j. record { capabilities = s .capabilities; names = (ap (λ (l : List ℕ). wordsOf (s .names) ++ l) (sym e) ∙ words-snoc (s .names) i) j; annotations = wordsOf (s .annotations); declarations = wordsOf (s .declarations) }
+append-in annotations i ws e s = λ j. record { capabilities = s .capabilities; names = wordsOf (s .names); annotations = (ap (λ (l : List ℕ). wordsOf (s .annotations) ++ l) (sym e) ∙ words-snoc (s .annotations) i) j; declarations = wordsOf (s .declarations) }
+append-in declarations i ws e s = λ j. record { capabilities = s .capabilities; names = wordsOf (s .names); annotations = wordsOf (s .annotations); declarations = (ap (λ (l : List ℕ). wordsOf (s .declarations) ++ l) (sym e) ∙ words-snoc (s .declarations) i) j }
+
+-- an operation on one section: the tables stay
+add-held : (b : Section) (w v : Writer) (S S′ ws : List ℕ) → v .idgen .last ≡ w .idgen .last → ((T : List ℕ) → tablesOf v T ≡ tablesOf w T)
+    → sectionsOf v S′ ≡ append b ws (sectionsOf w S)
+    → (i : Instruction) → Spelt i ws → (T : List ℕ) (s : State) → Held w T S s → Held v T S′ (addTo b i s)
+unfolding listed
+add-held names w v S S′ ws l t f i e T s h = record { last = l ∙ h .last; tables = t T ∙ h .tables; small = h .small; sections = f ∙ ap (append names ws) (h .sections) ∙ append-in names i ws e s }
+add-held annotations w v S S′ ws l t f i e T s h = record { last = l ∙ h .last; tables = t T ∙ h .tables; small = h .small; sections = f ∙ ap (append annotations ws) (h .sections) ∙ append-in annotations i ws e s }
+add-held declarations w v S S′ ws l t f i e T s h = record { last = l ∙ h .last; tables = t T ∙ h .tables; small = h .small; sections = f ∙ ap (append declarations ws) (h .sections) ∙ append-in declarations i ws e s }
+
+module _ (w : Writer) (S ws : List ℕ) (n : ℕ) (few : length ws ≤ n) where
+  abbrev from : Section → ℕ
+  from b = sectionAt b w + used b w
+
+  pub in-list : (b : Section) → RoomFor (wordsIn b n) w S → from b + length ws ≤ length S
+  in-list names room = omega arith
+  in-list annotations room = omega arith
+  in-list declarations room = omega arith
+
+  appended : (b : Section) → RoomFor (wordsIn b n) w S → sectionsOf (more b w (length ws)) (splice S (from b) ws) ≡ append b ws (sectionsOf w S)
+  appended names room = λ i. record {
+    capabilities = part-left S (from names) ws (in-list names room) 0 (w .capabilities) (omega arith) i;
+    names = part-more S (sectionAt names w) (w .names) (from names) ws refl (in-list names room) i;
+    annotations = part-right S (from names) ws (in-list names room) (sectionAt annotations w) (w .annotations) (omega arith) i;
+    declarations = part-right S (from names) ws (in-list names room) (sectionAt declarations w) (w .declarations) (omega arith) i;
+  }
+  appended annotations room = λ i. record {
+    capabilities = part-left S (from annotations) ws (in-list annotations room) 0 (w .capabilities) (omega arith) i;
+    names = part-left S (from annotations) ws (in-list annotations room) (sectionAt names w) (w .names) (omega arith) i;
+    annotations = part-more S (sectionAt annotations w) (w .annotations) (from annotations) ws refl (in-list annotations room) i;
+    declarations = part-right S (from annotations) ws (in-list annotations room) (sectionAt declarations w) (w .declarations) (omega arith) i;
+  }
+  appended declarations room = λ i. record {
+    capabilities = part-left S (from declarations) ws (in-list declarations room) 0 (w .capabilities) (omega arith) i;
+    names = part-left S (from declarations) ws (in-list declarations room) (sectionAt names w) (w .names) (omega arith) i;
+    annotations = part-left S (from declarations) ws (in-list declarations room) (sectionAt annotations w) (w .annotations) (omega arith) i;
+    declarations = part-more S (sectionAt declarations w) (w .declarations) (from declarations) ws refl (in-list declarations room) i;
+  }
+
+  pub adds : (b : Section) → RoomFor (wordsIn b n) w S → Adds b n ws w S (more b w (length ws)) (splice S (from b) ws)
+  adds names room = record { grown = omega arith; held = add-held names w (more names w (length ws)) S (splice S (from names) ws) ws refl (λ T. refl) (appended names room) }
+  adds annotations room = record { grown = omega arith; held = add-held annotations w (more annotations w (length ws)) S (splice S (from annotations) ws) ws refl (λ T. refl) (appended annotations room) }
+  adds declarations room = record { grown = omega arith; held = add-held declarations w (more declarations w (length ws)) S (splice S (from declarations) ws) ws refl (λ T. refl) (appended declarations room) }
+
+  -- what a writer put into the part that it was lent
+  module _ (b : Section) (z : List ℕ) (m : ℕ) (room : RoomFor (wordsIn b n) w S) (put : Put ws (Puts.part S (sectionAt b w + used b w)) z m) where
+    pub adds-count : m ≡ length ws
+    adds-count = Puts.lent-count S (from b) ws z m put (in-list b room)
+
+    pub adds-put : Adds b n ws w S (more b w m) (Puts.back S (sectionAt b w + used b w) z)
+    adds-put =
+        let l : Puts.back S (from b) z ≡ splice S (from b) ws = Puts.lent S (from b) ws z m put (in-list b room) in
+        subst (λ (k : ℕ). Adds b n ws w S (more b w k) (Puts.back S (from b) z)) (sym adds-count)
+        (subst (λ (y : List ℕ). Adds b n ws w S (more b w (length ws)) y) (sym l) (adds b room))
+
+-- the same of one instruction
+pub puts : (b : Section) (n : ℕ) (i : Instruction) (ws : List ℕ) → Spelt i ws → (w : Writer) (S : List ℕ) (v : Writer) (S′ : List ℕ) → Adds b n ws w S v S′ → PutsOne b n i w S v S′
+puts b n i ws e w S v S′ a = record { grown = a .grown; held = a .held i e }
+
+pub plain-count : (op : ℕ) (xs : List ℕ) → length (words (plain op xs)) ≡ suc (length xs)
+unfolding words
+plain-count op xs = refl
+
+-- ---- a composite: its head, and its parts behind it
+
+map-length : (xs : List ℕ) → length (map low xs) ≡ length xs
+map-length [] = refl
+map-length (x ∷ xs) = ap suc (map-length xs)
+
+pub composite-low : (t id n : ℕ) (ps : List ℕ) → n < 65000 → length ps ≡ n → map low (words (constantComposite t id ps)) ≡ compositeHead (low t) (low id) n ++ map low ps
+unfolding words
+composite-low t id n ps h e =
+    let k : low (65536 * suc (suc (suc (length ps))) + 44) ≡ 65536 * (n + 3) + 44 = omega arith in
+    λ j. k j ∷ (low t ∷ (low id ∷ map low ps))
+
+-- one part more
+pub put-more : (S : List ℕ) (p : ℕ) (T : List ℕ) (from i x q : ℕ) → from + i < length T → p + i < length S → x ≡ low (getD T (from + i) 0) → q ≡ p + i
+    → splice (splice S p (map low (part T from i))) q (x ∷ []) ≡ splice S p (map low (part T from (i + 1)))
+put-more S p T from i x q ht hs e eq =
+    let l : length (part T from i) ≡ i = length-take-le i (drop from T) (simp length-drop (omega arith)) in
+    let m : length (map low (part T from i)) ≡ i = map-length (part T from i) ∙ l in
+    let t : part T from i ++ getD T (from + i) 0 ∷ [] ≡ part T from (i + 1) =
+    sym (ap (λ (j : ℕ). part T from j) (add-one i) ∙ take-suc (drop from T) i 0 (simp length-drop (omega arith)) ∙ ap (λ (y : ℕ). part T from i ++ y ∷ []) (getD-drop from T i 0)) in
+    splice-splice S p (map low (part T from i)) q (x ∷ []) (omega arith) (omega arith)
+    ∙ ap (λ (y : ℕ). splice S p (map low (part T from i) ++ y ∷ [])) e
+    ∙ ap (splice S p) (sym (map-append (part T from i) (getD T (from + i) 0 ∷ [])) ∙ ap (map low) t)
+
+pub declares-composite : (w : Writer) (S z S₂ T : List ℕ) (t id t′ id′ n m from : ℕ) → n < 65000 → from + n ≤ length T → RoomFor (declaring (n + 3)) w S → t′ ≡ low t → id′ ≡ low id
+    → Put (compositeHead t′ id′ n) (Puts.part S (sectionAt declarations w + w .declarations)) z m
+    → S₂ ≡ splice (Puts.back S (sectionAt declarations w + w .declarations) z) (sectionAt declarations w + w .declarations + 3) (map low (part T from n))
+    → PutsOne declarations (n + 3) (constantComposite t id (part T from n)) w S (more declarations w (n + 3)) S₂
+declares-composite w S z S₂ T t id t′ id′ n m from few in-T room et ei put e =
+    let p = sectionAt declarations w + w .declarations in
+    let ps = part T from n in
+    let l : length ps ≡ n = length-take-le n (drop from T) (simp length-drop (omega arith)) in
+    let ml = map-length ps ∙ l in
+    let ws = compositeHead t′ id′ n ++ map low ps in
+    let lw : length ws ≡ n + 3 = simp length-append (omega (arith, ml)) in
+    let q : S₂ ≡ splice S p ws = e ∙ ap (λ (y : List ℕ). splice y (p + 3) (map low ps)) (Puts.lent S p (compositeHead t′ id′ n) z m put (omega arith))
+    ∙ splice-splice S p (compositeHead t′ id′ n) (p + 3) (map low ps) refl (omega (arith, ml)) in
+    let sp : map low (words (constantComposite t id ps)) ≡ ws = composite-low t id n ps few l ∙ sym (λ j. compositeHead (et j) (ei j) n ++ map low ps) in
+    puts declarations (n + 3) (constantComposite t id ps) ws sp w S (more declarations w (n + 3)) S₂
+    (subst (λ (y : List ℕ). Adds declarations (n + 3) ws w S (more declarations w (n + 3)) y) (sym q)
+    (subst (λ (k : ℕ). Adds declarations (n + 3) ws w S (more declarations w k) (splice S p ws)) lw (adds w S ws (n + 3) (omega (arith, lw)) declarations room)))
+
+-- ---- capabilities
+
+-- the search
+module _ (c : ℕ) (xs : List ℕ) (n i : ℕ) (h : i < n) (l : n ≤ length xs) where
+  turn : isListed c (slice i n xs) ≡ pick (eqb c (getD xs i 0)) true (isListed c (slice (suc i) n xs))
+  unfolding isListed
+  turn = ap (isListed c) (slice-cons i n xs 0 h l)
+
+  pub listed-hit : getD xs i 0 ≡ c → isListed c (slice i n xs) ≡ true
+  listed-hit e = turn ∙ rw (eq-eqb c (getD xs i 0) (sym e))
+
+  pub listed-miss : (getD xs i 0 ≡ c → ⊥) → isListed c (slice i n xs) ≡ isListed c (slice (i + 1) n xs)
+  listed-miss e = turn ∙ rw (ne-eqb c (getD xs i 0) (λ q. e (sym q))) (ap (λ (j : ℕ). isListed c (slice j n xs)) (sym (add-one i)))
+
+pub listed-none : (c : ℕ) (xs : List ℕ) (n : ℕ) → isListed c (slice n n xs) ≡ false
+unfolding isListed
+listed-none c xs n = ap (isListed c) (slice-empty n xs)
+
+-- what the definition makes of its answer
+old : (c : ℕ) (xs : List ℕ) → isListed c xs ≡ true → listOne (occurrences c xs) c xs ≡ xs
+unfolding isListed occurrences
+old c xs e = go (occurrences c xs) (count xs e)
+  where
+    count : (ys : List ℕ) → isListed c ys ≡ true → 0 < occurrences c ys
+    count [] e = let z : _≡_ {A = ℕ} 0 1 = cc in omega arith
+    count (y ∷ ys) e = by (eqb c y) refl (count ys)
+      where
+        by : (b : Bool) → eqb c y ≡ b → (isListed c ys ≡ true → 0 < occurrences c ys) → 0 < same c y + occurrences c ys
+        by true p f = rw p (omega arith)
+        by false p f = rw p (omega (arith, f (rw (← e) (rw p))))
+
+    go : (n : ℕ) → 0 < n → listOne n c xs ≡ xs
+    go zero h = absurd (omega arith)
+    go (suc n) h = refl
+
+new : (c : ℕ) (xs : List ℕ) → isListed c xs ≡ false → listOne (occurrences c xs) c xs ≡ xs ++ c ∷ []
+unfolding isListed occurrences
+new c xs e = ap (λ (n : ℕ). listOne n c xs) (count xs e)
+  where
+    count : (ys : List ℕ) → isListed c ys ≡ false → occurrences c ys ≡ 0
+    count [] e = refl
+    count (y ∷ ys) e = by (eqb c y) refl (count ys)
+      where
+        by : (b : Bool) → eqb c y ≡ b → (isListed c ys ≡ false → occurrences c ys ≡ 0) → same c y + occurrences c ys ≡ 0
+        by true p f = let z : isListed c (y ∷ ys) ≡ true = rw p in let q : _≡_ {A = ℕ} 0 1 = cc in absurd (omega arith)
+        by false p f = rw p (omega (arith, f (rw (← e) (rw p))))
+
+module _ (w : Writer) (S : List ℕ) (c : ℕ) where
+  -- nothing to list
+  pub lists-none : c ≡ 0 → Listed (asList c) w S w S
+  unfolding listed
+  lists-none e = rw e (record { grown = omega arith; held = λ T s h. h })
+
+  module _ (n : c ≡ 0 → ⊥) where
+    one : asList c ≡ c ∷ []
+    one = rw (ne-eqb c 0 n)
+
+    pub lists-old : isListed c (part S 0 (w .capabilities)) ≡ true → Listed (asList c) w S w S
+    unfolding listed
+    lists-old e = rw one (record {
+      grown = omega arith;
+      held = λ T s h.
+          let q : s .capabilities ≡ listOne (occurrences c (s .capabilities)) c (s .capabilities) =
+          sym (old c (s .capabilities) (sym (ap (λ (t : Sections). isListed c (t .capabilities)) (h .sections)) ∙ e)) in
+          record {
+            last = h .last;
+            tables = h .tables;
+            small = h .small;
+            sections = h .sections ∙ (λ i. record { capabilities = q i; names = sectionsIn s .names; annotations = sectionsIn s .annotations; declarations = sectionsIn s .declarations });
+          };
+    })
+
+    pub lists-new : isListed c (part S 0 (w .capabilities)) ≡ false → RoomFor (capabilitiesOf 1) w S → Listed (asList c) w S (moreCapabilities w 1) (splice S (w .capabilities) (c ∷ []))
+    unfolding listed
+    lists-new e room = rw one (record {
+      grown = omega arith;
+      held = λ T s h.
+          let p = w .capabilities in
+          let q : s .capabilities ++ c ∷ [] ≡ listOne (occurrences c (s .capabilities)) c (s .capabilities) =
+          sym (new c (s .capabilities) (sym (ap (λ (t : Sections). isListed c (t .capabilities)) (h .sections)) ∙ e)) in
+          let f : sectionsOf (moreCapabilities w 1) (splice S p (c ∷ [])) ≡ record { capabilities = sectionsOf w S .capabilities ++ c ∷ []; names = sectionsOf w S .names; annotations = sectionsOf w S .annotations; declarations = sectionsOf w S .declarations } = λ i. record {
+            capabilities = part-more S 0 p p (c ∷ []) (omega arith) (omega arith) i;
+            names = part-right S p (c ∷ []) (omega arith) (sectionAt names w) (w .names) (omega arith) i;
+            annotations = part-right S p (c ∷ []) (omega arith) (sectionAt annotations w) (w .annotations) (omega arith) i;
+            declarations = part-right S p (c ∷ []) (omega arith) (sectionAt declarations w) (w .declarations) (omega arith) i;
+          } in
+          record {
+            last = h .last;
+            tables = h .tables;
+            small = h .small;
+            sections = f ∙ ap (λ (t : Sections). record { capabilities = t .capabilities ++ c ∷ []; names = t .names; annotations = t .annotations; declarations = t .declarations }) (h .sections)
+                ∙ (λ i. record { capabilities = q i; names = sectionsIn s .names; annotations = sectionsIn s .annotations; declarations = sectionsIn s .declarations });
+          };
+    })
+
+-- ---- an instruction word by word
+
+pub pending : (w : Writer) (S : List ℕ) (k x p : ℕ) → p ≡ sectionAt declarations w + w .declarations + k → RoomFor (declaring (k + 1)) w S → Pending k x w S (splice S p (x ∷ []))
+pending w S k x p e room =
+    let q : sectionsOf w (splice S p (x ∷ [])) ≡ sectionsOf w S = λ i. record {
+      capabilities = part-left S p (x ∷ []) (omega arith) 0 (w .capabilities) (omega arith) i;
+      names = part-left S p (x ∷ []) (omega arith) (sectionAt names w) (w .names) (omega arith) i;
+      annotations = part-left S p (x ∷ []) (omega arith) (sectionAt annotations w) (w .annotations) (omega arith) i;
+      declarations = part-left S p (x ∷ []) (omega arith) (sectionAt declarations w) (w .declarations) (omega arith) i;
+    } in
+    record {
+      still = λ T s h. record { last = h .last; tables = h .tables; small = h .small; sections = q ∙ h .sections };
+      more = part-more S (sectionAt declarations w + w .declarations) k p (x ∷ []) (omega arith) (omega arith);
+    }
+
+pub committed : (w : Writer) (n : ℕ) → Committed n w (more declarations w n)
+unfolding listed
+committed w n = record {
+  grown = omega arith;
+  held = λ T S s i e h.
+      let f = sym e in
+      let d : part S (sectionAt declarations w) (w .declarations + n) ≡ part S (sectionAt declarations w) (w .declarations) ++ part S (sectionAt declarations w + w .declarations) n =
+      take-add (w .declarations) n (drop (sectionAt declarations w) S) ∙ ap (λ (l : List ℕ). part S (sectionAt declarations w) (w .declarations) ++ take n l) (drop-drop (w .declarations) (sectionAt declarations w) S) in
+      record {
+        last = h .last;
+        tables = h .tables;
+        small = h .small;
+        sections = (λ j. record { capabilities = sectionsOf w S .capabilities; names = sectionsOf w S .names; annotations = sectionsOf w S .annotations; declarations = d j })
+            ∙ (λ j. record { capabilities = h .sections j .capabilities; names = h .sections j .names; annotations = h .sections j .annotations; declarations = h .sections j .declarations ++ f j })
+            ∙ (λ j. record { capabilities = sectionsIn s .capabilities; names = sectionsIn s .names; annotations = sectionsIn s .annotations; declarations = words-snoc (s .declarations) i j });
+      };
+}

@@ -1,0 +1,5 @@
+pub mod Rows
+pub mod Regions
+pub mod Cost
+pub mod Held
+pub mod Steps

@@ -1,0 +1,62 @@
+-- Tables and sections in regions of two lists.
+use Prim.Native.Nat.{ℕ, zero, suc, _+_, _-_, _%_}
+use mathlib.Core.Bool.{Bool, true, false, _&&_}
+use mathlib.Core.List.{List, [], _∷_, _++_}
+use mathlib.Core.Option.{Option, some, none}
+use lib.Dec.{eqb, ltb}
+use lib.ListN.{getD, take, drop}
+use Rattle.definition.specs.Choice.{pick}
+use Rattle.writer.specs.declared.Sought.{Sought}
+use Rattle.writer.specs.declared.Sought.the-variants.{Id, Absent}
+
+-- a row of a table: a key in two numbers, and an id
+pub record Row : Type 0 where
+  pub first : ℕ
+  pub second : ℕ
+  pub id : ℕ
+
+abbrev pub row : ℕ → ℕ → ℕ → Row
+row a b i = record { first = a; second = b; id = i }
+
+-- the n rows from a place on
+unfoldable pub rows : List ℕ → ℕ → ℕ → List Row
+rows T at zero = []
+rows T at (suc n) = row (getD T at 0) (getD T (at + 1) 0) (getD T (at + 2) 0) ∷ rows T (at + 3) n
+
+-- the n words from a place on
+abbrev pub part : List ℕ → ℕ → ℕ → List ℕ
+part S at n = take n (drop at S)
+
+-- the id of the first row under a key
+unfoldable pub seekIn : ℕ → ℕ → List Row → Option ℕ
+seekIn a b [] = none
+seekIn a b (r ∷ rs) = pick (eqb (r .first) a && eqb (r .second) b) (some (r .id)) (seekIn a b rs)
+
+-- two lists of numbers are equal
+unfoldable pub sameList : List ℕ → List ℕ → Bool
+sameList [] [] = true
+sameList [] (y ∷ ys) = false
+sameList (x ∷ xs) [] = false
+sameList (x ∷ xs) (y ∷ ys) = pick (eqb x y) (sameList xs ys) false
+
+-- the id of the first of n rows from p on under a key and with these parts; the rows' second number is how many parts a row
+-- has, and the parts stand one row's behind the other's from o on, before q
+unfoldable pub seekParts : ℕ → List ℕ → ℕ → List ℕ → ℕ → ℕ → ℕ → Option ℕ
+seekParts key ps q T p o zero = none
+seekParts key ps q T p o (suc n) =
+    pick (ltb (q - o) (getD T (p + 1) 0)) none
+    (pick (eqb (getD T p 0) key && sameList (part T o (getD T (p + 1) 0)) ps) (some (getD T (p + 2) 0))
+    (seekParts key ps q T (p + 3) (o + getD T (p + 1) 0) n))
+
+abbrev pub soughtOf : Sought → Option ℕ
+soughtOf (Id i) = some i
+soughtOf Absent = none
+
+-- a number as a word: ids are exact until the bound is known to be small
+abbrev pub low : ℕ → ℕ
+low x = x % 4294967296
+
+-- whether a number stands in a list
+unfoldable pub isListed : ℕ → List ℕ → Bool
+isListed c [] = false
+isListed c (x ∷ xs) = pick (eqb c x) true (isListed c xs)

@@ -1,0 +1,462 @@
+// The writer's tables and sections, in regions of two slices that the caller lends, and how much of each is in use.
+// One function for each thing that the rules do to the definition's State; whatever is above only composes them.
+use spirv::IdGenerator;
+use spirv::instructions::constant_composite_head;
+use spirv::layout::put_plain;
+ghost use mathlib.Core.Path.{_≡_};
+ghost use mathlib.Core.List.{List, [], _∷_, map};
+ghost use Prim.Native.Nat.{ℕ, _+_, _*_, _≤_, _<_};
+ghost use lib.ListN.{length};
+ghost use Rattle.definition.specs.State.{empty};
+ghost use Rattle.definition.specs.Instructions.{words, plain, constantComposite, name, memberName};
+ghost use Rattle.spirv.specs.Sections.{splice};
+ghost use Rattle.lookup.specs.Local.{asList};
+ghost use Rattle.writer.specs.Rows.{rows, seekIn, seekParts, soughtOf, part, low, isListed};
+ghost use Rattle.writer.specs.Regions.{partsAt, Section, names, annotations, declarations};
+ghost use Rattle.writer.specs.Cost.{nothing, aType, aLiteral, aNull, aValue, aComposite, staging, capabilitiesOf, naming, annotating, declaring};
+ghost use Rattle.writer.specs.Held.{Held, RoomIn, RoomFor};
+ghost use Rattle.writer.specs.Steps.{fresh, Took, FindsType, FindsLiteral, FindsNull, FindsComposite, EnteredType, EnteredLiteral, EnteredNull, EnteredComposite, EnteredValue, ValueAt, Adds, Puts, Listed, Pending, Committed};
+
+// Where a table starts, in multiples of `records`: a row is three numbers, and a record adds four types at most and one row
+// to each other table. Behind the tables stand the ids of composites' parts.
+const LITERALS: usize = 12;
+
+const NULLS: usize = 15;
+
+const VALUES: usize = 18;
+
+const COMPOSITES: usize = 21;
+
+const PARTS: usize = 24;
+
+// Where a section starts, in multiples of `bytes`: a byte of the sheet adds a capability at most, a word of names, two of
+// annotations and three of declarations. The capabilities come first.
+pub const NAMES: usize = 1;
+
+pub const ANNOTATIONS: usize = 2;
+
+pub const DECLARATIONS: usize = 4;
+
+// `records` and `bytes` say how large a sheet there is room for; the other numbers are rows, ids or words in use.
+pub struct Writer {
+    pub records: usize,
+    pub bytes: usize,
+    pub idgen: IdGenerator,
+    pub types: usize,
+    pub literals: usize,
+    pub nulls: usize,
+    pub values: usize,
+    pub composites: usize,
+    pub parts: usize,
+    pub capabilities: usize,
+    pub names: usize,
+    pub annotations: usize,
+    pub declarations: usize,
+}
+
+// An id, and the writer that holds what it stands for.
+pub struct Taken {
+    pub id: u64,
+    pub writer: Writer,
+}
+
+// A constant of the sheet: its id, its type's id, and the code of its kind where a Splat may repeat it, plus 1; 0 where not.
+pub struct Value {
+    pub id: u64,
+    pub ty: u64,
+    pub kind: u64,
+}
+
+// What a search comes to.
+pub enum Sought {
+    Id(u64),
+    Absent,
+}
+
+// A writer that holds nothing but the last id already given out.
+pub fn new(records: usize, bytes: usize, start: u64) -> Writer
+    ensures { λ r. ⌜ (r ≡ fresh records bytes start) × ((T S : List ℕ) → Held r T S (empty start)) ⌝ }
+{
+    Writer {
+        records,
+        bytes,
+        idgen: IdGenerator { last: start },
+        types: 0,
+        literals: 0,
+        nulls: 0,
+        values: 0,
+        composites: 0,
+        parts: 0,
+        capabilities: 0,
+        names: 0,
+        annotations: 0,
+        declarations: 0,
+    }
+}
+
+pub fn take_id(mut w: Writer) -> Taken
+    requires { ⌜ w .idgen .last < 9223372036854775808 ⌝ }
+    ensures { λ r. ⌜ Took w r ⌝ }
+{
+    let g = w.idgen;
+    let next = g.next();
+    let h = next.idgen;
+    w.idgen = h;
+    Taken {
+        id: next.id,
+        writer: w,
+    }
+}
+
+// A number as a word. Ids are exact in the tables, and words only where the bound is known to be small enough.
+pub fn low_word(x: u64) -> u32
+    ensures { λ r. ⌜ r ≡ low x ⌝ }
+{
+    (x % 4294967296) as u32
+}
+
+// ---- tables: searched in order of entry
+
+// The id of the first of n rows under a key.
+fn seek(tables: &[u64], start: usize, n: usize, a: u64, b: u64) -> Sought
+    requires { ⌜ start + 3 * n ≤ length (now tables) ⌝ }
+    ensures { λ r. ⌜ soughtOf r ≡ seekIn a b (rows (now (tables .entry)) start n) ⌝ }
+{
+    let mut i = 0;
+    let mut p = start;
+    while i < n {
+        if tables[p] == a {
+            if tables[p + 1] == b {
+                return Sought::Id(tables[p + 2]);
+            }
+        }
+        i += 1;
+        p += 3;
+    }
+    Sought::Absent
+}
+
+pub fn find_type(tables: &[u64], w: Writer, key: u64) -> Sought
+    requires { ⌜ RoomIn nothing w (now tables) ⌝ }
+    ensures { λ r. ⌜ FindsType key w (now (tables .entry)) r ⌝ }
+{
+    seek(tables, 0, w.types, key, 0)
+}
+
+pub fn find_literal(tables: &[u64], w: Writer, form: u64, bits: u64) -> Sought
+    requires { ⌜ RoomIn nothing w (now tables) ⌝ }
+    ensures { λ r. ⌜ FindsLiteral form bits w (now (tables .entry)) r ⌝ }
+{
+    seek(tables, LITERALS * w.records, w.literals, form, bits)
+}
+
+pub fn find_null(tables: &[u64], w: Writer, ty: u64) -> Sought
+    requires { ⌜ RoomIn nothing w (now tables) ⌝ }
+    ensures { λ r. ⌜ FindsNull ty w (now (tables .entry)) r ⌝ }
+{
+    seek(tables, NULLS * w.records, w.nulls, ty, 0)
+}
+
+// The id of the first of n rows under a key and with the m parts that stand at q. A row's second number is how many parts
+// it has, and the rows' parts stand one row's behind the other's from `parts` on.
+fn seek_parts(
+    tables: &[u64],
+    start: usize,
+    n: usize,
+    parts: usize,
+    q: usize,
+    m: usize,
+    key: u64,
+) -> Sought
+    requires { ⌜ (start + 3 * n ≤ length (now tables)) × (parts ≤ q) × (q + m ≤ length (now tables)) ⌝ }
+    ensures { λ r. ⌜ soughtOf r ≡ seekParts key (part (now (tables .entry)) q m) q (now (tables .entry)) start parts n ⌝ }
+{
+    let mut i = 0;
+    let mut p = start;
+    let mut o = parts;
+    'entries: while i < n {
+        let e = p;
+        let f = o;
+        let l = tables[p + 1] as usize;
+        if q - o < l {
+            return Sought::Absent;
+        }
+        i += 1;
+        p += 3;
+        o += l;
+        if tables[e] != key {
+            continue 'entries;
+        }
+        if l != m {
+            continue 'entries;
+        }
+        let mut j = 0;
+        while j < l {
+            if tables[f + j] != tables[q + j] {
+                continue 'entries;
+            }
+            j += 1;
+        }
+        return Sought::Id(tables[e + 2]);
+    }
+    Sought::Absent
+}
+
+// The composite under a key of the n parts that stand behind those in use.
+pub fn find_composite(tables: &[u64], w: Writer, key: u64, n: usize) -> Sought
+    requires { ⌜ RoomIn (staging n) w (now tables) ⌝ }
+    ensures { λ r. ⌜ FindsComposite key n w (now (tables .entry)) r ⌝ }
+{
+    let parts = PARTS * w.records;
+    seek_parts(
+        tables,
+        COMPOSITES * w.records,
+        w.composites,
+        parts,
+        parts + w.parts,
+        n,
+        key,
+    )
+}
+
+fn put_row(tables: &mut [u64], p: usize, a: u64, b: u64, id: u64)
+    requires { ⌜ p + 3 ≤ length (now tables) ⌝ }
+    ensures { λ _. ⌜ now (tables .exit) ≡ splice (now (tables .entry)) p (a ∷ b ∷ id ∷ []) ⌝ }
+{
+    tables[p] = a;
+    tables[p + 1] = b;
+    tables[p + 2] = id;
+}
+
+pub fn enter_type(tables: &mut [u64], mut w: Writer, key: u64, id: u64) -> Writer
+    requires { ⌜ RoomIn aType w (now tables) ⌝ }
+    ensures { λ r. ⌜ EnteredType key id w (now (tables .entry)) r (now (tables .exit)) ⌝ }
+{
+    put_row(tables, 3 * w.types, key, 0, id);
+    w.types += 1;
+    w
+}
+
+pub fn enter_literal(tables: &mut [u64], mut w: Writer, form: u64, bits: u64, id: u64) -> Writer
+    requires { ⌜ RoomIn aLiteral w (now tables) ⌝ }
+    ensures { λ r. ⌜ EnteredLiteral form bits id w (now (tables .entry)) r (now (tables .exit)) ⌝ }
+{
+    put_row(
+        tables,
+        LITERALS * w.records + 3 * w.literals,
+        form,
+        bits,
+        id,
+    );
+    w.literals += 1;
+    w
+}
+
+pub fn enter_null(tables: &mut [u64], mut w: Writer, ty: u64, id: u64) -> Writer
+    requires { ⌜ RoomIn aNull w (now tables) ⌝ }
+    ensures { λ r. ⌜ EnteredNull ty id w (now (tables .entry)) r (now (tables .exit)) ⌝ }
+{
+    put_row(tables, NULLS * w.records + 3 * w.nulls, ty, 0, id);
+    w.nulls += 1;
+    w
+}
+
+// A constant of the sheet.
+pub fn enter_value(tables: &mut [u64], mut w: Writer, id: u64, ty: u64, kind: u64) -> Writer
+    requires { ⌜ RoomIn aValue w (now tables) ⌝ }
+    ensures { λ r. ⌜ EnteredValue id ty kind w (now (tables .entry)) r (now (tables .exit)) ⌝ }
+{
+    put_row(tables, VALUES * w.records + 3 * w.values, id, ty, kind);
+    w.values += 1;
+    w
+}
+
+// Constant c of the sheet; past the end it reads as none.
+pub fn value_at(tables: &[u64], w: Writer, c: usize) -> Value
+    requires { ⌜ RoomIn nothing w (now tables) ⌝ }
+    ensures { λ r. ⌜ ValueAt c w (now (tables .entry)) r ⌝ }
+{
+    if w.values <= c {
+        return Value {
+            id: 0,
+            ty: 0,
+            kind: 0,
+        };
+    }
+    let p = VALUES * w.records + 3 * c;
+    Value {
+        id: tables[p],
+        ty: tables[p + 1],
+        kind: tables[p + 2],
+    }
+}
+
+// ---- composites: parts are put behind those in use, where no composite has them, until theirs is entered
+
+// Part i of a composite that is not entered yet.
+pub fn stage_part(tables: &mut [u64], w: Writer, i: usize, id: u64)
+    requires { ⌜ RoomIn (staging (i + 1)) w (now tables) ⌝ }
+    ensures { λ _. ⌜ now (tables .exit) ≡ splice (now (tables .entry)) (partsAt w + w .parts + i) (id ∷ []) ⌝ }
+{
+    let p = PARTS * w.records + w.parts + i;
+    tables[p] = id;
+}
+
+// The n parts that stand behind those in use are a composite's.
+pub fn enter_composite(tables: &mut [u64], mut w: Writer, key: u64, n: usize, id: u64) -> Writer
+    requires { ⌜ RoomIn (aComposite n) w (now tables) ⌝ }
+    ensures { λ r. ⌜ EnteredComposite key n id w (now (tables .entry)) r (now (tables .exit)) ⌝ }
+{
+    put_row(
+        tables,
+        COMPOSITES * w.records + 3 * w.composites,
+        key,
+        n as u64,
+        id,
+    );
+    w.composites += 1;
+    w.parts += n;
+    w
+}
+
+// ---- sections: an instruction goes behind those in its section
+
+pub fn declare(sections: &mut [u32], mut w: Writer, op: u32, operands: &[u32]) -> Writer
+    requires { ⌜ (op < 65536) × (length (now operands) ≤ 8) × RoomFor (declaring (length (now operands) + 1)) w (now sections) ⌝ }
+    ensures { λ r. ⌜ Adds declarations (length (now (operands .entry)) + 1) (words (plain op (now (operands .entry)))) w (now (sections .entry)) r (now (sections .exit)) ⌝ }
+{
+    let start = DECLARATIONS * w.bytes + w.declarations;
+    let n = put_plain(&mut sections[start..], op, operands);
+    w.declarations += n;
+    w
+}
+
+pub fn annotate(sections: &mut [u32], mut w: Writer, op: u32, operands: &[u32]) -> Writer
+    requires { ⌜ (op < 65536) × (length (now operands) ≤ 8) × RoomFor (annotating (length (now operands) + 1)) w (now sections) ⌝ }
+    ensures { λ r. ⌜ Adds annotations (length (now (operands .entry)) + 1) (words (plain op (now (operands .entry)))) w (now (sections .entry)) r (now (sections .exit)) ⌝ }
+{
+    let start = ANNOTATIONS * w.bytes + w.annotations;
+    let n = put_plain(&mut sections[start..], op, operands);
+    w.annotations += n;
+    w
+}
+
+// Names an id.
+pub fn label(sections: &mut [u32], mut w: Writer, target: u64, bytes: &[u8]) -> Writer
+    requires { ⌜ (length (now bytes) < 256) × RoomFor (naming (length (now bytes) + 3)) w (now sections) ⌝ }
+    ensures { λ r. ⌜ Puts names (length (now (bytes .entry)) + 3) (name target (now (bytes .entry))) w (now (sections .entry)) r (now (sections .exit)) ⌝ }
+{
+    let start = NAMES * w.bytes + w.names;
+    let t = low_word(target);
+    let n = spirv::instructions::name(&mut sections[start..], t, bytes);
+    w.names += n;
+    w
+}
+
+// Names a member of an id.
+pub fn label_member(
+    sections: &mut [u32],
+    mut w: Writer,
+    target: u64,
+    member: u32,
+    bytes: &[u8],
+) -> Writer
+    requires { ⌜ (length (now bytes) < 256) × RoomFor (naming (length (now bytes) + 4)) w (now sections) ⌝ }
+    ensures { λ r. ⌜ Puts names (length (now (bytes .entry)) + 4) (memberName target member (now (bytes .entry))) w (now (sections .entry)) r (now (sections .exit)) ⌝ }
+{
+    let start = NAMES * w.bytes + w.names;
+    let t = low_word(target);
+    let n = spirv::instructions::member_name(&mut sections[start..], t, member, bytes);
+    w.names += n;
+    w
+}
+
+fn put_word(sections: &mut [u32], p: usize, x: u32)
+    requires { ⌜ p < length (now sections) ⌝ }
+    ensures { λ _. ⌜ now (sections .exit) ≡ splice (now (sections .entry)) p (x ∷ []) ⌝ }
+{
+    sections[p] = x;
+}
+
+// Puts the n ids from a place of the tables on as words.
+fn put_ids(tables: &[u64], start: usize, sections: &mut [u32], p: usize, n: usize)
+    requires { ⌜ (start + n ≤ length (now tables)) × (p + n ≤ length (now sections)) ⌝ }
+    ensures { λ _. ⌜ now (sections .exit) ≡ splice (now (sections .entry)) p (map low (part (now (tables .entry)) start n)) ⌝ }
+{
+    let mut i = 0;
+    while i < n {
+        put_word(sections, p + i, low_word(tables[start + i]));
+        i += 1;
+    }
+}
+
+// Declares the composite of the n parts that stand behind those in use.
+pub fn declare_composite(
+    tables: &[u64],
+    sections: &mut [u32],
+    mut w: Writer,
+    ty: u64,
+    id: u64,
+    n: usize,
+) -> Writer
+    requires { ⌜ (n < 65000) × RoomIn (staging n) w (now tables) × RoomFor (declaring (n + 3)) w (now sections) ⌝ }
+    ensures { λ r. ⌜ Puts declarations (n + 3) (constantComposite ty id (part (now (tables .entry)) (partsAt w + w .parts) n)) w (now (sections .entry)) r (now (sections .exit)) ⌝ }
+{
+    let start = PARTS * w.records + w.parts;
+    let p = DECLARATIONS * w.bytes + w.declarations;
+    constant_composite_head(&mut sections[p..], low_word(ty), low_word(id), n);
+    put_ids(tables, start, sections, p + 3, n);
+    w.declarations += n + 3;
+    w
+}
+
+// A word of an instruction that is not whole yet, behind the declarations in use.
+pub fn put_pending(sections: &mut [u32], w: Writer, k: usize, x: u32)
+    requires { ⌜ RoomFor (declaring (k + 1)) w (now sections) ⌝ }
+    ensures { λ _. ⌜ Pending k x w (now (sections .entry)) (now (sections .exit)) ⌝ }
+{
+    put_word(sections, DECLARATIONS * w.bytes + w.declarations + k, x);
+}
+
+// The n words pending are an instruction.
+pub fn commit(mut w: Writer, n: usize) -> Writer
+    requires { ⌜ w .declarations + n < 9223372036854775808 ⌝ }
+    ensures { λ r. ⌜ Committed n w r ⌝ }
+{
+    w.declarations += n;
+    w
+}
+
+// ---- capabilities
+
+// Whether a number stands among the first n words.
+fn is_listed(sections: &[u32], n: usize, c: u32) -> bool
+    requires { ⌜ n ≤ length (now sections) ⌝ }
+    ensures { λ r. ⌜ r ≡ isListed c (part (now (sections .entry)) 0 n) ⌝ }
+{
+    let mut i = 0;
+    while i < n {
+        if sections[i] == c {
+            return true;
+        }
+        i += 1;
+    }
+    false
+}
+
+// Lists a capability at its first use; 0 is none.
+pub fn list_capability(sections: &mut [u32], mut w: Writer, c: u32) -> Writer
+    requires { ⌜ RoomFor (capabilitiesOf 1) w (now sections) ⌝ }
+    ensures { λ r. ⌜ Listed (asList c) w (now (sections .entry)) r (now (sections .exit)) ⌝ }
+{
+    if c == 0 {
+        return w;
+    }
+    let n = w.capabilities;
+    if is_listed(sections, n, c) {
+        return w;
+    }
+    put_word(sections, n, c);
+    w.capabilities = n + 1;
+    w
+}

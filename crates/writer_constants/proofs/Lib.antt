@@ -1,0 +1,5 @@
+pub mod Staging
+pub mod Ways
+pub mod Entering
+pub mod Fitting
+pub mod Records

@@ -1,0 +1,133 @@
+-- Parts put behind those in use, one by one. What is put there is `splice T (waiting w) ws` of the list before it: so nothing
+-- in use is changed, and the parts are ws. A Splat's ws repeats one id; a Compose's ws are the ids that the table has, which
+-- are those that the state has.
+use Prim.Native.Nat.{ℕ, zero, suc, _+_, _*_, _<_}
+use mathlib.Core.Path.{_≡_, refl, sym, ap, _∙_}
+use mathlib.Core.List.{List, [], _∷_, _++_, append-assoc}
+use native.Mathlib.Omega.{arith}
+use native.Mathlib.Numerals.{add-one}
+use native.Mathlib.Decide.{decLt}
+use lib.ListN.{length, take, drop, replicate}
+use lib.Seq.{take-at, drop-at, length-take-le}
+use borrow.Author.Tests.{lt-ltb, le-ltb}
+use Rattle.definition.specs.Bytes.{u16At}
+use Rattle.definition.specs.Sheet.{u16sAt}
+use Rattle.definition.specs.State.{State}
+use Rattle.definition.specs.Rules.{idsOf, valueAt}
+use Rattle.spirv.specs.Sections.{splice}
+use Rattle.writer.specs.declared.Writer.{Writer}
+use Rattle.writer.specs.Rows.{part}
+use Rattle.writer.specs.Regions.{literalsAt, nullsAt, valuesAt, compositesAt, partsAt}
+use Rattle.writer.specs.Cost.{staging}
+use Rattle.writer.specs.Held.{tablesOf, Held, RoomIn}
+use Rattle.writer.specs.Steps.{idIn}
+use Rattle.writer.proofs.Regions.{left, rows-agree, part-left, splice-none, splice-splice}
+use Rattle.writer.proofs.Values.{value-there, value-past}
+use Rattle.writer_constants.specs.Staged.{Staged}
+
+-- where the parts wait
+abbrev pub waiting : Writer → ℕ
+waiting w = partsAt w + w .parts
+
+-- what is put there changes nothing that is in use
+module _ (w : Writer) (T ws : List ℕ) (n : ℕ) (l : length ws ≡ n) (room : RoomIn (staging n) w T) where
+  tables-kept : tablesOf w (splice T (waiting w) ws) ≡ tablesOf w T
+  tables-kept = λ i. record {
+    types = rows-agree T (splice T (waiting w) ws) 0 (w .types) (left T (waiting w) ws (omega arith) 0 (3 * w .types) (omega arith)) i;
+    literals = rows-agree T (splice T (waiting w) ws) (literalsAt w) (w .literals) (left T (waiting w) ws (omega arith) (literalsAt w) (3 * w .literals) (omega arith)) i;
+    nulls = rows-agree T (splice T (waiting w) ws) (nullsAt w) (w .nulls) (left T (waiting w) ws (omega arith) (nullsAt w) (3 * w .nulls) (omega arith)) i;
+    values = rows-agree T (splice T (waiting w) ws) (valuesAt w) (w .values) (left T (waiting w) ws (omega arith) (valuesAt w) (3 * w .values) (omega arith)) i;
+    composites = rows-agree T (splice T (waiting w) ws) (compositesAt w) (w .composites) (left T (waiting w) ws (omega arith) (compositesAt w) (3 * w .composites) (omega arith)) i;
+    parts = part-left T (waiting w) ws (omega arith) (partsAt w) (w .parts) (omega arith) i;
+  }
+
+  pub staged : (ps : State → List ℕ) → ((S : List ℕ) (s : State) → Held w T S s → ws ≡ ps s) → (T′ : List ℕ) → T′ ≡ splice T (waiting w) ws → Staged n ps w T T′
+  staged ps e T′ et = rw et (record {
+    held = λ S s h. record { last = h .last; tables = tables-kept ∙ h .tables; small = h .small; sections = h .sections };
+    parts = λ S s h. there ∙ e S s h;
+  })
+    where
+      there : part (splice T (waiting w) ws) (waiting w) n ≡ ws
+      there =
+          let k : length (take (waiting w) T) ≡ waiting w = length-take-le (waiting w) T (omega arith) in
+          ap (λ (z : List ℕ). take n (drop (waiting w) z)) (append-assoc (take (waiting w) T) ws (drop (waiting w + length ws) T))
+          ∙ ap (take n) (drop-at (take (waiting w) T) (ws ++ drop (waiting w + length ws) T) (waiting w) k) ∙ take-at ws (drop (waiting w + length ws) T) n l
+
+-- ---- a Splat's parts
+
+pub same-length : (n id : ℕ) → length (replicate n id) ≡ n
+same-length zero id = refl
+same-length (suc n) id = ap suc (same-length n id)
+
+same-snoc : (n id : ℕ) → replicate n id ++ id ∷ [] ≡ replicate (suc n) id
+same-snoc zero id = refl
+same-snoc (suc n) id = ap (λ (l : List ℕ). id ∷ l) (same-snoc n id)
+
+-- one more
+pub splat-more : (T : List ℕ) (q id i p : ℕ) → p ≡ q + i → q + i < length T → splice (splice T q (replicate i id)) p (id ∷ []) ≡ splice T q (replicate (i + 1) id)
+splat-more T q id i p e h =
+    let l = same-length i id in
+    splice-splice T q (replicate i id) p (id ∷ []) (omega arith) (omega arith) ∙ ap (splice T q) (same-snoc i id ∙ ap (λ (j : ℕ). replicate j id) (sym (add-one i)))
+
+-- ---- a Compose's parts
+
+-- the ids of constants, as the table has them
+unfoldable pub idsIn : Writer → List ℕ → List ℕ → List ℕ
+idsIn w T [] = []
+idsIn w T (c ∷ cs) = idIn w T c ∷ idsIn w T cs
+
+ids-length : (w : Writer) (T cs : List ℕ) → length (idsIn w T cs) ≡ length cs
+unfolding idsIn
+ids-length w T [] = refl
+ids-length w T (c ∷ cs) = ap suc (ids-length w T cs)
+
+ids-snoc : (w : Writer) (T cs : List ℕ) (c : ℕ) → idsIn w T cs ++ idIn w T c ∷ [] ≡ idsIn w T (cs ++ c ∷ [])
+unfolding idsIn
+ids-snoc w T [] c = refl
+ids-snoc w T (x ∷ cs) c = ap (λ (l : List ℕ). idIn w T x ∷ l) (ids-snoc w T cs c)
+
+pub u16s-length : (b : List ℕ) (p n : ℕ) → length (u16sAt b p n) ≡ n
+unfolding u16sAt
+u16s-length b p zero = refl
+u16s-length b p (suc n) = ap suc (u16s-length b (p + 2) n)
+
+u16s-snoc : (b : List ℕ) (p n : ℕ) → u16sAt b p n ++ u16At b (p + 2 * n) ∷ [] ≡ u16sAt b p (suc n)
+unfolding u16sAt
+u16s-snoc b p zero = let e : p + 2 * 0 ≡ p = omega arith in ap (λ (j : ℕ). u16At b j ∷ []) e
+u16s-snoc b p (suc n) =
+    let e : p + 2 * suc n ≡ p + 2 + 2 * n = omega arith in
+    ap (λ (l : List ℕ). u16At b p ∷ l) (ap (λ (j : ℕ). u16sAt b (p + 2) n ++ u16At b j ∷ []) e ∙ u16s-snoc b (p + 2) n)
+
+pub parts-length : (w : Writer) (T b : List ℕ) (n : ℕ) → length (idsIn w T (u16sAt b 4 n)) ≡ n
+parts-length w T b n = ids-length w T (u16sAt b 4 n) ∙ u16s-length b 4 n
+
+pub parts-none : (w : Writer) (T b : List ℕ) → T ≡ splice T (waiting w) (idsIn w T (u16sAt b 4 0))
+unfolding idsIn u16sAt
+parts-none w T b = splice-none T (waiting w)
+
+-- what a constant's id is does not change
+kept : (w : Writer) (T ws : List ℕ) (n c : ℕ) → length ws ≡ n → RoomIn (staging n) w T → Dec (c < w .values) → idIn w (splice T (waiting w) ws) c ≡ idIn w T c
+kept w T ws n c l room (yes h) = rw (lt-ltb c (w .values) h) (left T (waiting w) ws (omega arith) (valuesAt w) (3 * w .values) (omega arith) (valuesAt w + 3 * c) (omega arith) (omega arith))
+kept w T ws n c l room (no h) = rw (le-ltb c (w .values) (omega arith))
+
+-- one more
+pub parts-more : (w : Writer) (T b : List ℕ) (n i x p : ℕ) → RoomIn (staging n) w T → i < n → p ≡ waiting w + i → x ≡ idIn w (splice T (waiting w) (idsIn w T (u16sAt b 4 i))) (u16At b (4 + 2 * i))
+    → splice (splice T (waiting w) (idsIn w T (u16sAt b 4 i))) p (x ∷ []) ≡ splice T (waiting w) (idsIn w T (u16sAt b 4 (i + 1)))
+parts-more w T b n i x p room h ep ex =
+    let cs = u16sAt b 4 i in
+    let c = u16At b (4 + 2 * i) in
+    let l = parts-length w T b i in
+    let k : x ≡ idIn w T c = ex ∙ kept w T (idsIn w T cs) i c l (omega arith) (decLt c (w .values)) in
+    splice-splice T (waiting w) (idsIn w T cs) p (x ∷ []) (omega arith) (omega arith)
+    ∙ ap (λ (y : ℕ). splice T (waiting w) (idsIn w T cs ++ y ∷ [])) k
+    ∙ ap (splice T (waiting w)) (ids-snoc w T cs c ∙ ap (idsIn w T) (u16s-snoc b 4 i ∙ ap (u16sAt b 4) (sym (add-one i))))
+
+-- they are the ids that the state has
+id-held : (w : Writer) (T S : List ℕ) (s : State) → Held w T S s → (c : ℕ) → Dec (c < w .values) → idIn w T c ≡ valueAt s c .id
+id-held w T S s h c (yes l) = sym (value-there w T c l .named) ∙ value-there w T c l .held S s h .id
+id-held w T S s h c (no l) = sym (value-past w T c (omega arith) .named) ∙ value-past w T c (omega arith) .held S s h .id
+
+pub ids-held : (w : Writer) (T S : List ℕ) (s : State) → Held w T S s → (cs : List ℕ) → idsIn w T cs ≡ idsOf s cs
+unfolding idsIn idsOf
+ids-held w T S s h [] = refl
+ids-held w T S s h (c ∷ cs) = let p = id-held w T S s h c (decLt c (w .values)) in let q = ids-held w T S s h cs in λ i. p i ∷ q i

@@ -1,0 +1,55 @@
+-- The record is tested, so what is taken for its constant is the constant, and its types are below n.
+use mathlib.Core.Path.{_≡_, sym, subst}
+use mathlib.Core.Bool.{true}
+use borrow.Author.Needs.{needs}
+use Rattle.definition.specs.Sheet.{Expression, recordAt}
+use Rattle.definition.specs.Tests.{expressionTypes, below}
+use Rattle.records.specs.Places.{typesFrom}
+use Rattle.writer_constants.specs.Fitting.{Fits}
+use Rattle.writer_constants.proofs.Records.{is-taken}
+use Rattle.writer_constants.proofs.constant_fits.Statement.{statement}
+use Rattle.writer_constants.proofs.constant_fits.Tie as tie
+
+body-of-requires : tie.Need-body-of-requires
+body-of-requires c κs = search needs
+
+tag-of-requires : tie.Need-tag-of-requires
+tag-of-requires c κs = search needs
+
+expression-of-requires : tie.Need-expression-of-requires
+expression-of-requires c κs = search needs
+
+expression-fits-requires : tie.Need-expression-fits-requires
+expression-fits-requires c κs =
+    let a = c .before .before .before .before .before .before .before .before .before .args in
+    let p = c .before .before .before .before .before .before .before .before .before .pre in
+    let t = c .before .before .tag-of in
+    let b = c .before .before .before .body-of in
+    let e = c .before .expression-of in
+    let q = is-taken (a .n) (recordAt (a .rest .now)) (p .1 .0) (t .result) (b .result .now) (t .ensures) (b .ensures) (e .result) (e .ensures) in
+    (p .0, (subst (λ (x : Expression). below (a .n) (expressionTypes x) ≡ true) (sym q) (p .1 .0 .types), p .1 .1))
+
+same-length : tie.Need-same-length
+same-length c = search needs
+
+returns : tie.Need-returns
+returns c =
+    let a = c .before .before .before .before .before .before .before .before .before .before .before .before .args in
+    let p = c .before .before .before .before .before .before .before .before .before .before .before .before .pre in
+    let t = c .before .before .before .before .before .tag-of in
+    let b = c .before .before .before .before .before .before .body-of in
+    let e = c .before .before .before .before .expression-of in
+    let f = c .before .before .expression-fits in
+    let q = is-taken (a .n) (recordAt (a .rest .now)) (p .1 .0) (t .result) (b .result .now) (t .ensures) (b .ensures) (e .result) (e .ensures) in
+    (subst (λ (x : Expression). Fits (typesFrom (a .s .now) (a .types .now) (a .n)) x (a .w) (a .tables .now) (f .result)) q (f .ensures .0), f .ensures .1)
+
+pub constant-fits-spec : {M : Type 1} → statement M
+constant-fits-spec =
+    tie.close
+    (tie.spec
+    body-of-requires
+    tag-of-requires
+    expression-of-requires
+    expression-fits-requires
+    same-length
+    returns)

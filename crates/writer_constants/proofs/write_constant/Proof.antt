@@ -1,0 +1,67 @@
+-- The record is tested, so what is taken for its constant is the constant, and its bytes are room for what it costs.
+use mathlib.Core.Path.{sym, subst}
+use borrow.Author.Needs.{needs}
+use Rattle.definition.specs.Sheet.{Expression, recordAt}
+use Rattle.records.specs.Places.{typesFrom}
+use Rattle.writer.specs.Held.{Room}
+use Rattle.writer_constants.specs.Entered.{expressionCost, Few, ConstantWritten}
+use Rattle.writer_constants.proofs.Records.{few, roomy, written, is-taken}
+use Rattle.writer_constants.proofs.write_constant.Statement.{statement}
+use Rattle.writer_constants.proofs.write_constant.Tie as tie
+
+body-of-requires : tie.Need-body-of-requires
+body-of-requires c κs = search needs
+
+tag-of-requires : tie.Need-tag-of-requires
+tag-of-requires c κs = search needs
+
+expression-of-requires : tie.Need-expression-of-requires
+expression-of-requires c κs = search needs
+
+write-constant-expr-requires : tie.Need-write-constant-expr-requires
+write-constant-expr-requires c κs =
+    let a = c .before .before .before .before .before .before .before .before .before .before .args in
+    let p = c .before .before .before .before .before .before .before .before .before .before .pre in
+    let r = recordAt (a .rest .now) in
+    let t = c .before .before .before .tag-of in
+    let b = c .before .before .before .before .body-of in
+    let e = c .before .before .expression-of in
+    let q = is-taken (a .n) r (p .1 .0) (t .result) (b .result .now) (t .ensures) (b .ensures) (e .result) (e .ensures) in (
+      p .0,
+      (
+        subst Few (sym q) (few (a .n) r (p .1 .0)),
+        subst (λ (x : Expression). Room (expressionCost x) (a .w) (a .tables .now) (a .sections .now)) (sym q) (roomy (a .n) r (p .1 .0) (a .w) (a .tables .now) (a .sections .now) (p .1 .1)),
+      ),
+    )
+
+same-length : tie.Need-same-length
+same-length c = search needs
+
+same-length-2 : tie.Need-same-length-2
+same-length-2 c = search needs
+
+returns : tie.Need-returns
+returns c =
+    let a = c .before .before .before .before .before .before .before .before .before .before .before .before .before .before .before .args in
+    let p = c .before .before .before .before .before .before .before .before .before .before .before .before .before .before .before .pre in
+    let r = recordAt (a .rest .now) in
+    let t = c .before .before .before .before .before .before .before .before .tag-of in
+    let b = c .before .before .before .before .before .before .before .before .before .body-of in
+    let e = c .before .before .before .before .before .before .before .expression-of in
+    let x = c .before .before .before .before .write-constant-expr in
+    let q = is-taken (a .n) r (p .1 .0) (t .result) (b .result .now) (t .ensures) (b .ensures) (e .result) (e .ensures) in
+    let ts = typesFrom (a .s .now) (a .types .now) (a .n) in
+    written (a .n) r (p .1 .0) ts (a .w) (a .tables .now) (a .sections .now) (x .result) (x .last .0) (x .last .1 .0)
+    (subst (λ (y : Expression). ConstantWritten (expressionCost y) ts y (a .w) (a .tables .now) (a .sections .now) (x .result) (x .last .0) (x .last .1 .0)) q (x .ensures))
+
+pub write-constant-spec : {M : Type 1} → statement M
+write-constant-spec =
+    tie.close
+    (tie.spec
+    body-of-requires
+    tag-of-requires
+    expression-of-requires
+    write-constant-expr-requires
+    same-length
+    same-length-2
+    returns)

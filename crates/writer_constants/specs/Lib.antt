@@ -1,0 +1,4 @@
+pub mod Staged
+pub mod Entered
+pub mod Fitting
+pub mod Tested

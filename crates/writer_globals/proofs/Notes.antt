@@ -1,0 +1,174 @@
+-- Decorations and the name: each function's ways out from what its callees leave. An instruction put is one step `Added`;
+-- two steps are one; and a step is the definition's where the definition has been told the case.
+use Prim.Native.Nat.{ℕ, _+_, _≤_, _<_, _/_, _%_}
+use mathlib.Core.Path.{_≡_, refl, sym, ap, _∙_, subst}
+use mathlib.Core.Bool.{Bool, true, false}
+use mathlib.Core.List.{List, [], _∷_}
+use mathlib.Core.Option.{Option, some, none}
+use native.Mathlib.Omega.{arith}
+use borrow.Author.Tests.{eq-eqb, ne-eqb}
+use lib.Dec.{eqb}
+use lib.ListN.{length, take, drop, length-take}
+use Rattle.definition.specs.Choice.{pick}
+use Rattle.definition.specs.Bytes.{u8At, nameAt, nameEnd}
+use Rattle.definition.specs.Numbers.{DecorationColMajor, DecorationMatrixStride, DecorationBinding, DecorationDescriptorSet}
+use Rattle.definition.specs.Instructions.{Instruction, words, plain, name, decorate, memberDecorate}
+use Rattle.definition.specs.Sheet.{TypeEntry}
+use Rattle.definition.specs.Shapes.{entry}
+use Rattle.definition.specs.State.{State, annotate}
+use Rattle.definition.specs.Finding.{find}
+use Rattle.definition.specs.Rules.{innerAt, annotateIf, labelIf, strideMember, imageAccess, accessOf, decorateAccess, blockBase, block}
+use Rattle.kinds.specs.Numbers.{spaceNumber, spaceAccess}
+use Rattle.entries.specs.Globals.{globalOf}
+use Rattle.entries.specs.declared.globals.Binding.{Binding}
+use Rattle.entries.specs.declared.globals.Binding.the-variants.{Bound}
+use Rattle.entries.specs.declared.globals.ResourceBinding.{ResourceBinding}
+use Rattle.entries.specs.declared.globals.GlobalVariable.{GlobalVariable}
+use Rattle.writer.specs.declared.Writer.{Writer}
+use Rattle.writer.specs.declared.Taken.{Taken}
+use Rattle.writer.specs.Rows.{low}
+use Rattle.writer.specs.Regions.{names, annotations}
+use Rattle.writer.specs.Cost.{Cost, nothing, annotating, naming, _⊕_}
+use Rattle.writer.specs.Held.{Held}
+use Rattle.writer.specs.Steps.{Kept, GotBy, Spelt, Adds, Puts}
+use Rattle.writer_globals.specs.Globals.{Added, bindingDecorated}
+use Rattle.writer_globals.proofs.Rooms.{grown-still, _▹_, tail-same, tail-still, tail-then}
+
+-- ---- steps
+
+-- nothing is written
+pub still : (c : Cost) {f : State → State} (w : Writer) (S : List ℕ) → ((s : State) → f s ≡ s) → Added c f w S w S
+still c w S e = record { grown = grown-still c w; held = λ T s h. subst (Held w T S) (sym (e s)) h }
+
+pub kept-still : (c : Cost) {f : State → State} (w : Writer) (T S : List ℕ) → ((s : State) → f s ≡ s) → Kept c f w T S w T S
+kept-still c w T S e = record { grown = grown-still c w; tail = tail-same w T; held = λ s h. subst (Held w T S) (sym (e s)) h }
+
+-- an annotation
+put-one : {n : ℕ} {ws : List ℕ} {w v : Writer} {S S₁ : List ℕ} → Adds annotations n ws w S v S₁ → (i : Instruction) → Spelt i ws → Added (annotating n) (annotate i) w S v S₁
+put-one p i e = record { grown = p .grown; held = p .held i e }
+
+added-then : {c d : Cost} {f g : State → State} {w v u : Writer} {S S₁ S₂ : List ℕ} → Added c f w S v S₁ → Added d g v S₁ u S₂ → Added (c ⊕ d) (λ s. g (f s)) w S u S₂
+added-then {f = f} p q = record { grown = p .grown ▹ q .grown; held = λ T s h. q .held T (f s) (p .held T s h) }
+
+-- the same step under another name
+added-as : {c : Cost} {f g : State → State} {w v : Writer} {S S₁ : List ℕ} → ((s : State) → f s ≡ g s) → Added c f w S v S₁ → Added c g w S v S₁
+added-as {v = v} {S₁ = S₁} e p = record { grown = p .grown; held = λ T s h. subst (Held v T S₁) (e s) (p .held T s h) }
+
+pub low-small : (n : ℕ) → n < 4294967296 → low n ≡ n
+low-small n h = omega arith
+
+-- ---- one decoration, if it is there
+
+pub if-there : (id d : ℕ) → d < 4294967296 → (b : Bool) → b ≡ true → {w v : Writer} {S S₁ : List ℕ} {x : ℕ} → x ≡ low id → Adds annotations 3 (words (plain 71 (x ∷ d ∷ []))) w S v S₁
+    → Added (annotating 3) (annotateIf b (decorate id d [])) w S v S₁
+unfolding words
+if-there id d hd b e ex p =
+    let a = sym ex in
+    let n = low-small d hd in
+    added-as (λ s. ap (λ (q : Bool). annotateIf q (decorate id d []) s) (sym e)) (put-one p (decorate id d []) (λ j. 196679 ∷ a j ∷ n j ∷ []))
+
+-- ---- load and store
+
+module _ (ts : List TypeEntry) (g : GlobalVariable) (b : List ℕ) (k : ℕ) (ek : k ≡ spaceNumber (g .space)) where
+  by-space : (c : Bool) → eqb (spaceNumber (g .space)) 4 ≡ c → accessOf ts (globalOf b g) ≡ pick c (some (spaceAccess (g .space))) (imageAccess (innerAt ts (g .ty)))
+  by-space c e = ap (λ (c : Bool). pick c (some (spaceAccess (g .space))) (imageAccess (innerAt ts (g .ty)))) e
+
+  pub storage-access : k ≡ 4 → {a : ℕ} → a ≡ spaceAccess (g .space) → some a ≡ accessOf ts (globalOf b g)
+  storage-access e ea = ap some ea ∙ sym (by-space true (eq-eqb (spaceNumber (g .space)) 4 (sym ek ∙ e)))
+
+  pub other-access : (k ≡ 4 → ⊥) → {o : Option ℕ} → o ≡ imageAccess (innerAt ts (g .ty)) → o ≡ accessOf ts (globalOf b g)
+  other-access n e = e ∙ sym (by-space false (ne-eqb (spaceNumber (g .space)) 4 (λ q. n (ek ∙ q))))
+
+pub both-ways : (id x : ℕ) {w v u : Writer} {S S₁ S₂ : List ℕ} → Added (annotating 3) (annotateIf (eqb (x % 2) 0) (decorate id 25 [])) w S v S₁
+    → Added (annotating 3) (annotateIf (eqb (x / 2 % 2) 0) (decorate id 24 [])) v S₁ u S₂ → (o : Option ℕ) → o ≡ some x → Added (annotating 6) (decorateAccess o id) w S u S₂
+both-ways id x p q o e = added-as (λ s. ap (λ (o : Option ℕ). decorateAccess o id s) (sym e)) (added-then p q)
+
+-- ---- the binding
+
+pub bound : (id : ℕ) (r : ResourceBinding) → r .group < 4294967296 → r .binding < 4294967296 → {x : ℕ} → x ≡ low id → {w v u : Writer} {S S₁ S₂ : List ℕ}
+    → Adds annotations 4 (words (plain 71 (x ∷ 34 ∷ r .group ∷ []))) w S v S₁ → Adds annotations 4 (words (plain 71 (x ∷ 33 ∷ r .binding ∷ []))) v S₁ u S₂
+    → (b : Binding) → b ≡ Bound r → Added (annotating 8) (bindingDecorated b id) w S u S₂
+unfolding words
+bound id r hg hb ex p q b e =
+    let a = sym ex in
+    let m = low-small (r .group) hg in
+    let n = low-small (r .binding) hb in
+    added-as (λ s. ap (λ (b : Binding). bindingDecorated b id s) (sym e))
+    (added-then (put-one p (decorate id DecorationDescriptorSet (r .group ∷ [])) (λ j. 262215 ∷ a j ∷ 34 ∷ m j ∷ []))
+    (put-one q (decorate id DecorationBinding (r .binding ∷ [])) (λ j. 262215 ∷ a j ∷ 33 ∷ n j ∷ [])))
+
+-- ---- a wrapper's column stride
+
+pub strided : (id d : ℕ) → d < 4294967296 → {x : ℕ} → x ≡ low id → {w v u : Writer} {S S₁ S₂ : List ℕ}
+    → Adds annotations 4 (words (plain 72 (x ∷ 0 ∷ 5 ∷ []))) w S v S₁ → Adds annotations 5 (words (plain 72 (x ∷ 0 ∷ 7 ∷ d ∷ []))) v S₁ u S₂
+    → (o : Option ℕ) → o ≡ some d → Added (annotating 9) (strideMember o id 0) w S u S₂
+unfolding words
+strided id d hd ex p q o e =
+    let a = sym ex in
+    let n = low-small d hd in
+    added-as (λ s. ap (λ (o : Option ℕ). strideMember o id 0 s) (sym e))
+    (added-then (put-one p (memberDecorate id 0 DecorationColMajor []) (λ j. 262216 ∷ a j ∷ 0 ∷ 5 ∷ []))
+    (put-one q (memberDecorate id 0 DecorationMatrixStride (d ∷ [])) (λ j. 327752 ∷ a j ∷ 0 ∷ 7 ∷ n j ∷ [])))
+
+-- ---- the name
+
+module _ (debug : Bool) (id : ℕ) (b : List ℕ) where
+  pub unnamed : debug ≡ false → (s : State) → labelIf debug (name id) (nameAt b 0) s ≡ s
+  unnamed e s = ap (λ (q : Bool). labelIf q (name id) (nameAt b 0) s) e
+
+  module _ (e : debug ≡ true) {k : ℕ} (ek : k ≡ u8At b 0) where
+    pub nameless : k ≡ 255 → (s : State) → labelIf debug (name id) (nameAt b 0) s ≡ s
+    unfolding nameAt
+    nameless z s =
+        let n : nameAt b 0 ≡ none = rw (eq-eqb (u8At b 0) 255 (sym ek ∙ z)) in
+        λ j. labelIf (e j) (name id) (n j) s
+
+    module _ (nz : k ≡ 255 → ⊥) {bs : List ℕ} (eb : bs ≡ take k (drop 1 b)) where
+      is-number : u8At b 0 ≡ 255 → ⊥
+      is-number q = nz (ek ∙ q)
+
+      -- the name is no longer than its length byte says
+      pub short : (length bs ≤ k) × (nameEnd b 0 ≡ 1 + k)
+      unfolding nameEnd
+      short =
+          let l : length bs ≡ length (take k (drop 1 b)) = ap length eb in
+          let m = length-take k (drop 1 b) in
+          let n : nameEnd b 0 ≡ 0 + 1 + u8At b 0 = rw (ne-eqb (u8At b 0) 255 is-number) in
+          (omega arith, omega arith)
+
+      pub labelled : {w v : Writer} {S S₁ : List ℕ} → Puts names (length bs + 3) (name id bs) w S v S₁ → Added (naming (nameEnd b 0 + 2)) (labelIf debug (name id) (nameAt b 0)) w S v S₁
+      unfolding nameAt
+      labelled {v = v} {S₁ = S₁} p =
+          let n : nameAt b 0 ≡ some bs = rw (ne-eqb (u8At b 0) 255 is-number) (ap some (sym (eb ∙ ap (λ (i : ℕ). take i (drop 1 b)) ek))) in
+          record {
+            grown = omega (arith, p .grown, short);
+            held = λ T s h. subst (Held v T S₁) (sym (λ j. labelIf (e j) (name id) (n j) s)) (p .held T s h);
+          }
+
+-- ---- Block on the base
+
+module _ (space k : ℕ) (ek : k ≡ space) (o : Option ℕ) where
+  pub not-storage : (k ≡ 4 → ⊥) → (s : State) → blockBase (eqb space 4) o s ≡ s
+  not-storage n s = ap (λ (q : Bool). blockBase q o s) (ne-eqb space 4 (λ e. n (ek ∙ e)))
+
+  module _ (e : k ≡ 4) where
+    is-storage : eqb space 4 ≡ true
+    is-storage = eq-eqb space 4 (sym ek ∙ e)
+
+    pub no-base : o ≡ none → (s : State) → blockBase (eqb space 4) o s ≡ s
+    no-base z s = λ j. blockBase (is-storage j) (z j) s
+
+    pub on-base : {b : ℕ} → o ≡ some b → {w v : Writer} {T S T₁ S₁ S₂ : List ℕ} {f : Taken} → GotBy nothing (find (entry b)) w T S f T₁ S₁
+        → {x : ℕ} → x ≡ low (f .id) → Adds annotations 3 (words (plain 71 (x ∷ 2 ∷ []))) (f .writer) S₁ v S₂ → Kept (annotating 3) (blockBase (eqb space 4) o) w T S v T₁ S₂
+    unfolding words
+    on-base {b = b} z {v = v} {T₁ = T₁} {S₂ = S₂} {f = f} p ex q =
+        let a = sym ex in
+        record {
+          grown = omega (arith, p .grown, q .grown);
+          tail = tail-then (p .grown) (p .tail) (tail-still refl T₁ (q .grown));
+          held = λ s h.
+              let g = p .gives s h in
+              let t = find (entry b) s in
+              subst (Held v T₁ S₂) ((λ j. annotate (block (g .named j)) (t .state)) ∙ sym (λ j. blockBase (is-storage j) (z j) s))
+              (q .held (block (f .id)) (λ j. 196679 ∷ a j ∷ 2 ∷ []) T₁ (t .state) (g .held));
+        }

@@ -1,0 +1,161 @@
+-- The wrapper, and the ways to a global's pointer: that what was read is the definition's way, and that what is written by
+-- it is the definition's pointer. The definition finds a remap by the fields of a binding, the program by the binding; the
+-- two meet in `sizeFor`.
+use Prim.Native.Nat.{ℕ, suc, _<_}
+use mathlib.Core.Path.{_≡_, refl, sym, ap, _∙_, subst}
+use mathlib.Core.Bool.{Bool, true, false}
+use mathlib.Core.List.{List, [], _∷_}
+use mathlib.Core.Option.{Option, some, none}
+use native.Mathlib.Omega.{arith}
+use lib.Dec.{eqb}
+use lib.ListN.{length}
+use Rattle.definition.specs.Choice.{pick}
+use Rattle.definition.specs.Numbers.{DecorationOffset}
+use Rattle.definition.specs.Instructions.{words, plain, memberDecorate, typeStruct, typePointer}
+use Rattle.definition.specs.Sheet.{TypeEntry, Remap, Global}
+use Rattle.definition.specs.Shapes.{entry, shape, pointer, storageClass}
+use Rattle.definition.specs.State.{State, Got, takeId, annotate, declare}
+use Rattle.definition.specs.Finding.{find}
+use Rattle.definition.specs.Rules.{block, strideMember, innerAt, matrixStride, elementOf, needsWrapper, isBound, bindingBase, remapOf, remappedWay, direct, wrapped, pointerOf}
+use Rattle.definition.proofs.Truth.{pick-for}
+use Rattle.kinds.specs.Numbers.{spaceNumber}
+use Rattle.entries.specs.Globals.{globalOf, boundNumber, groupNumber, bindingNumber}
+use Rattle.entries.specs.declared.globals.Binding.{Binding}
+use Rattle.entries.specs.declared.globals.Binding.the-variants.{Unbound, Bound}
+use Rattle.entries.specs.declared.globals.GlobalVariable.{GlobalVariable}
+use Rattle.type_facts.specs.declared.Number.{Number}
+use Rattle.type_facts.specs.Facets.{numberOf}
+use Rattle.writer.specs.declared.Writer.{Writer}
+use Rattle.writer.specs.declared.Taken.{Taken}
+use Rattle.writer.specs.Rows.{low}
+use Rattle.writer.specs.Regions.{annotations, declarations}
+use Rattle.writer.specs.Cost.{Cost, nothing, anId, annotating, declaring}
+use Rattle.writer.specs.Held.{Held, Grown, Room, RoomFor}
+use Rattle.writer.specs.Steps.{GotBy, Took, Adds}
+use Rattle.finding.proofs.Prices.{AtMost}
+use Rattle.finding.proofs.Ways.{taken}
+use Rattle.writer_globals.specs.Costs.{wrapperCost}
+use Rattle.writer_globals.specs.declared.pointers.Way.{Way}
+use Rattle.writer_globals.specs.declared.pointers.Way.the-variants.{Direct, Wrapped, Remapped}
+use Rattle.writer_globals.specs.Globals.{Added, wrapIn, pointerBy, sizeFor, wayIn}
+use Rattle.writer_globals.proofs.Rooms.{_▹_, grown-within, words-left, room-left, tail-still, tail-then}
+use Rattle.writer_globals.proofs.Notes.{low-small}
+
+-- ---- the wrapper: what is left of its room at each call, then the whole
+
+module _ {w : Writer} {T S : List ℕ} (room : Room wrapperCost w T S) {n : Writer} (g₀ : Grown anId w n) {a : Writer} (g₁ : Grown (annotating 3) n a) {b : Writer} (g₂ : Grown (annotating 5) a b) where
+  pub room-stride : {S′ : List ℕ} → length S′ ≡ length S → RoomFor (annotating 9) b S′
+  room-stride l = words-left (room .words) (g₀ ▹ g₁ ▹ g₂) l (omega arith)
+
+  module _ {c : Writer} (g₃ : Grown (annotating 9) b c) where
+    pub room-find : {S′ : List ℕ} → length S′ ≡ length S → Room nothing c T S′
+    room-find l = room-left room (g₀ ▹ g₁ ▹ g₂ ▹ g₃) refl l (omega arith)
+
+    module _ {f : Writer} (g₄ : Grown nothing c f) where
+      pub room-struct : {S′ : List ℕ} → length S′ ≡ length S → RoomFor (declaring 3) f S′
+      room-struct l = words-left (room .words) (g₀ ▹ g₁ ▹ g₂ ▹ g₃ ▹ g₄) l (omega arith)
+
+      module _ {d : Writer} (g₅ : Grown (declaring 3) f d) where
+        pub room-id : d .idgen .last < 9223372036854775808
+        room-id = omega (arith, g₀ ▹ g₁ ▹ g₂ ▹ g₃ ▹ g₄ ▹ g₅, room .rows)
+
+        pub room-pointer : {m : Writer} → Grown anId d m → {S′ : List ℕ} → length S′ ≡ length S → RoomFor (declaring 4) m S′
+        room-pointer g₆ l = words-left (room .words) (g₀ ▹ g₁ ▹ g₂ ▹ g₃ ▹ g₄ ▹ g₅ ▹ g₆) l (omega arith)
+
+pub wrapper : (t class : ℕ) → class < 4294967296 → (o : Option ℕ) {w : Writer} {T S : List ℕ} {n : Taken} → Took w n → {x : ℕ} → x ≡ low (n .id)
+    → {a : Writer} {S₁ : List ℕ} → Adds annotations 3 (words (plain 71 (x ∷ 2 ∷ []))) (n .writer) S a S₁
+    → {b : Writer} {S₂ : List ℕ} → Adds annotations 5 (words (plain 72 (x ∷ 0 ∷ 35 ∷ 0 ∷ []))) a S₁ b S₂
+    → {c : Writer} {S₃ : List ℕ} → Added (annotating 9) (strideMember o (n .id) 0) b S₂ c S₃
+    → {f : Taken} {T₄ S₄ : List ℕ} → GotBy nothing (find (entry t)) c T S₃ f T₄ S₄ → {y : ℕ} → y ≡ low (f .id)
+    → {d : Writer} {S₅ : List ℕ} → Adds declarations 3 (words (plain 30 (x ∷ y ∷ []))) (f .writer) S₄ d S₅
+    → {m : Taken} → Took d m → {z : ℕ} → z ≡ low (m .id)
+    → {u : Writer} {S₆ : List ℕ} → Adds declarations 4 (words (plain 32 (z ∷ class ∷ x ∷ []))) (m .writer) S₅ u S₆ → GotBy wrapperCost (wrapIn o t class) w T S (taken (m .id) u) T₄ S₆
+unfolding words
+wrapper t class hc o {w = w} {T = T} {S = S} {n = n} p ex q₁ q₂ q₃ {f = f} {T₄ = T₄} q₄ ey {S₅ = S₅} q₅ {m = m} p₂ ez {u = u} {S₆ = S₆} q₆ =
+    let before = p .grown ▹ q₁ .grown ▹ q₂ .grown ▹ q₃ .grown in
+    let after = q₅ .grown ▹ p₂ .grown ▹ q₆ .grown in
+    record {
+      grown = omega (arith, before, q₄ .grown, after);
+      tail = tail-then before (tail-still refl T before) (tail-then (q₄ .grown) (q₄ .tail) (tail-still refl T₄ after));
+      gives = λ s h.
+          let i = n .id in
+          let ei : i ≡ suc (s .last) = p .named ∙ ap suc (h .last) in
+          let e₁ = sym ex in
+          let e₂ = sym ey in
+          let e₃ = sym ez in
+          let ec = low-small class hc in
+          let A : ℕ → State = λ i. strideMember o i 0 (annotate (memberDecorate i 0 DecorationOffset (0 ∷ [])) (annotate (block i) (takeId s))) in
+          let F : ℕ → Got = λ i. find (entry t) (A i) in
+          let h₂ = q₁ .held (block i) (λ j. 196679 ∷ e₁ j ∷ 2 ∷ []) T (takeId s) (p .held T S s h) in
+          let h₃ = q₂ .held (memberDecorate i 0 DecorationOffset (0 ∷ [])) (λ j. 327752 ∷ e₁ j ∷ 0 ∷ 35 ∷ 0 ∷ []) T (annotate (block i) (takeId s)) h₂ in
+          let h₄ = q₃ .held T (annotate (memberDecorate i 0 DecorationOffset (0 ∷ [])) (annotate (block i) (takeId s))) h₃ in
+          let g = q₄ .gives (A i) h₄ in
+          let v = declare (typeStruct i (f .id ∷ [])) (F i .state) in
+          let h₅ = q₅ .held (typeStruct i (f .id ∷ [])) (λ j. 196638 ∷ e₁ j ∷ e₂ j ∷ []) T₄ (F i .state) (g .held) in
+          let em : m .id ≡ suc (F i .state .last) = p₂ .named ∙ ap suc (h₅ .last) in
+          let h₆ = q₆ .held (typePointer (m .id) class i) (λ j. 262176 ∷ e₃ j ∷ ec j ∷ e₁ j ∷ []) T₄ (takeId v) (p₂ .held T₄ S₅ v h₅) in
+          record {
+            named = em ∙ ap (λ (k : ℕ). suc (F k .state .last)) ei;
+            held = subst (Held u T₄ S₆)
+                ((λ j. declare (typePointer (em j) class i) (takeId (declare (typeStruct i (g .named j ∷ [])) (F i .state))))
+                ∙ ap (λ (k : ℕ). declare (typePointer (suc (F k .state .last)) class k) (takeId (declare (typeStruct k (F k .id ∷ [])) (F k .state)))) ei) h₆;
+          };
+    }
+
+-- ---- what is written by the way
+
+pub class-low : (s : ℕ) → storageClass s < 256
+class-low s =
+    let P : ℕ → Type 0 = λ c. c < 256 in
+    pick-for P (eqb s 0) _ _ (omega arith) (pick-for P (eqb s 1) _ _ (omega arith) (pick-for P (eqb s 2) _ _ (omega arith) (pick-for P (eqb s 3) _ _ (omega arith)
+    (pick-for P (eqb s 4) _ _ (omega arith) (pick-for P (eqb s 5) _ _ (omega arith) (omega arith))))))
+
+-- what costs less costs no more
+pub cheaper : {c : Cost} (d : Cost) → AtMost c d → {f g : State → Got} → ((s : State) → f s ≡ g s) → {w : Writer} {T S : List ℕ} {r : Taken} {T₁ S₁ : List ℕ} → GotBy c f w T S r T₁ S₁ → GotBy d g w T S r T₁ S₁
+cheaper d m e {r = r} {T₁ = T₁} {S₁ = S₁} p = record {
+  grown = grown-within m (p .grown);
+  tail = p .tail;
+  gives = λ s h.
+      let g = p .gives s h in
+      rw (← e s) (record { named = g .named; held = g .held });
+}
+
+module _ (u : Way) (g : GlobalVariable) {class : ℕ} (ec : class ≡ storageClass (spaceNumber (g .space))) (s : State) where
+  pub by-direct : u ≡ Direct → find (shape (pointer (g .ty) class)) s ≡ pointerBy u g s
+  by-direct e = ap (λ (c : ℕ). find (shape (pointer (g .ty) c)) s) ec ∙ sym (ap (λ (x : Way). pointerBy x g s) e)
+
+  pub by-wrapper : {d : Number} → u ≡ Wrapped d → wrapIn (numberOf d) (g .ty) class s ≡ pointerBy u g s
+  by-wrapper {d = d} e = ap (λ (c : ℕ). wrapIn (numberOf d) (g .ty) c s) ec ∙ sym (ap (λ (x : Way). pointerBy x g s) e)
+
+-- ---- the way
+
+-- the way of a global that is not wrapped, by its binding
+unwrapped : (rs : List Remap) (o : Option ℕ) (x : Binding) → pick (eqb (boundNumber x) 1) (remappedWay o (remapOf rs (groupNumber x) (bindingNumber x))) direct ≡ remappedWay o (sizeFor rs x)
+unwrapped rs none Unbound = refl
+unwrapped rs (some b) Unbound = refl
+unwrapped rs o (Bound r) = refl
+
+module _ (ts : List TypeEntry) (rs : List Remap) (g : GlobalVariable) (b : List ℕ) (x : State) where
+  abbrev gl : Global
+  gl = globalOf b g
+
+  pub is-wrapped : needsWrapper ts gl ≡ true → (d : Number) → numberOf d ≡ matrixStride (elementOf ts (innerAt ts (g .ty))) → pointerBy (Wrapped d) g x ≡ pointerOf (wayIn ts rs gl) ts gl x
+  is-wrapped e d q =
+      ap (λ (o : Option ℕ). wrapIn o (g .ty) (storageClass (spaceNumber (g .space))) x) q
+      ∙ sym (ap (λ (c : Bool). pointerOf (pick c wrapped (pick (isBound gl) (remappedWay (bindingBase (innerAt ts (g .ty))) (remapOf rs (gl .group) (gl .binding))) direct)) ts gl x) e)
+
+  module _ (e : needsWrapper ts gl ≡ false) where
+    other : (o n : Option ℕ) → bindingBase (innerAt ts (g .ty)) ≡ o → sizeFor rs (g .binding) ≡ n → pointerOf (wayIn ts rs gl) ts gl x ≡ pointerOf (remappedWay o n) ts gl x
+    other o n eo en =
+        let u = unwrapped rs (bindingBase (innerAt ts (g .ty))) (g .binding) in
+        (λ j. pointerOf (pick (e j) wrapped (u j)) ts gl x) ∙ (λ j. pointerOf (remappedWay (eo j) (en j)) ts gl x)
+
+    pub no-array : none ≡ bindingBase (innerAt ts (g .ty)) → pointerBy Direct g x ≡ pointerOf (wayIn ts rs gl) ts gl x
+    no-array eo = sym (other none (sizeFor rs (g .binding)) (sym eo) refl)
+
+    module _ {c : ℕ} (eo : some c ≡ bindingBase (innerAt ts (g .ty))) where
+      pub not-remapped : none ≡ sizeFor rs (g .binding) → pointerBy Direct g x ≡ pointerOf (wayIn ts rs gl) ts gl x
+      not-remapped en = sym (other (some c) none (sym eo) (sym en))
+
+      pub is-remapped : {n : ℕ} → some n ≡ sizeFor rs (g .binding) → pointerBy (Remapped c n) g x ≡ pointerOf (wayIn ts rs gl) ts gl x
+      is-remapped {n = n} en = sym (other (some c) (some n) (sym eo) (sym en))

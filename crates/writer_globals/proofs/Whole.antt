@@ -1,0 +1,164 @@
+-- A global from what each call leaves, in the order of the calls: what is left of its room before each, then the whole.
+-- The rule is restated as a function of its parts (`run`), so that each part's equation goes in by itself.
+use Prim.Native.Nat.{ℕ, suc, _+_, _/_, _%_}
+use mathlib.Core.Path.{_≡_, refl, sym, ap, _∙_, subst, fun-ext}
+use mathlib.Core.Bool.{Bool, true, _&&_, _||_}
+use mathlib.Core.List.{List}
+use mathlib.Core.Option.{Option}
+use native.Mathlib.Omega.{arith}
+use lib.Dec.{eqb}
+use lib.ListN.{length}
+use Rattle.definition.specs.Bytes.{nameAt, nameEnd}
+use Rattle.definition.specs.Instructions.{name, variable}
+use Rattle.definition.specs.Sheet.{Record, TypeEntry, Remap, Global, optionsOf, globalFields, global}
+use Rattle.definition.specs.Shapes.{storageClass}
+use Rattle.definition.specs.Tests.{Seen, valuesFit}
+use Rattle.definition.specs.State.{State, Got, takeId, declare}
+use Rattle.definition.specs.Rules.{labelIf, innerAt, accessOf, decorateAccess, decorateBinding, pointerOf, blockBase, bindingBase, initFor, declareGlobal}
+use Rattle.kinds.specs.Numbers.{spaceNumber, spaceAccess}
+use Rattle.entries.specs.Globals.{globalOf, constantOf, boundNumber, groupNumber, bindingNumber, Taken as Read}
+use Rattle.entries.specs.declared.globals.Binding.{Binding}
+use Rattle.entries.specs.declared.globals.Binding.the-variants.{Unbound, Bound}
+use Rattle.entries.specs.declared.globals.GlobalVariable.{GlobalVariable}
+use Rattle.writer.specs.declared.Writer.{Writer}
+use Rattle.writer.specs.declared.Taken.{Taken}
+use Rattle.writer.specs.Cost.{anId, naming, annotating, declaring, recordCost}
+use Rattle.writer.specs.Held.{Held, Room, RoomFor, Grown}
+use Rattle.writer.specs.Steps.{Kept, GotBy, Took}
+use Rattle.finding.specs.Costs.{nullCost}
+use Rattle.finding.proofs.Prices.{AtMost}
+use Rattle.writer_globals.specs.Costs.{pointerCost, globalCost}
+use Rattle.writer_globals.specs.Globals.{Added, pointerBy, wayIn, bindingDecorated, initIn, Initialised, GlobalKept}
+use Rattle.writer_globals.specs.Records.{globalIn, Tested}
+use Rattle.writer_globals.specs.declared.pointers.Way.{Way}
+use Rattle.writer_globals.specs.declared.Inited.{Inited}
+use Rattle.writer_globals.proofs.Rooms.{_▹_, grown-within, words-left, room-left, tail-still, tail-then}
+
+-- ---- room before each call
+
+module _ (k : ℕ) {w : Writer} {T S : List ℕ} (room : Room (globalCost k) w T S) {t : Writer} (g₀ : Grown anId w t) where
+  pub room-name : RoomFor (naming (k + 2)) t S
+  room-name = words-left (room .words) g₀ refl (omega arith)
+
+  module _ {v₁ : Writer} (g₁ : Grown (naming (k + 2)) t v₁) where
+    pub room-access : {S′ : List ℕ} → length S′ ≡ length S → RoomFor (annotating 6) v₁ S′
+    room-access l = words-left (room .words) (g₀ ▹ g₁) l (omega arith)
+
+    module _ {v₂ : Writer} (g₂ : Grown (annotating 6) v₁ v₂) where
+      pub room-binding : {S′ : List ℕ} → length S′ ≡ length S → RoomFor (annotating 8) v₂ S′
+      room-binding l = words-left (room .words) (g₀ ▹ g₁ ▹ g₂) l (omega arith)
+
+      module _ {v₃ : Writer} (g₃ : Grown (annotating 8) v₂ v₃) where
+        pub room-pointer : {S′ : List ℕ} → length S′ ≡ length S → Room pointerCost v₃ T S′
+        room-pointer l = room-left room (g₀ ▹ g₁ ▹ g₂ ▹ g₃) refl l (omega arith)
+
+        module _ {p : Writer} (g₄ : Grown pointerCost v₃ p) where
+          pub room-base : {T′ S′ : List ℕ} → length T′ ≡ length T → length S′ ≡ length S → Room (annotating 3) p T′ S′
+          room-base m l = room-left room (g₀ ▹ g₁ ▹ g₂ ▹ g₃ ▹ g₄) m l (omega arith)
+
+          module _ {v₅ : Writer} (g₅ : Grown (annotating 3) p v₅) where
+            pub room-init : {T′ S′ : List ℕ} → length T′ ≡ length T → length S′ ≡ length S → Room nullCost v₅ T′ S′
+            room-init m l = room-left room (g₀ ▹ g₁ ▹ g₂ ▹ g₃ ▹ g₄ ▹ g₅) m l (omega arith)
+
+            pub room-variable : {z : Writer} → Grown nullCost v₅ z → {S′ : List ℕ} → length S′ ≡ length S → RoomFor (declaring 5) z S′
+            room-variable g₆ l = words-left (room .words) (g₀ ▹ g₁ ▹ g₂ ▹ g₃ ▹ g₄ ▹ g₅ ▹ g₆) l (omega arith)
+
+-- ---- the rule by its parts
+
+-- the binding as the definition writes it
+as-bound : (b : List ℕ) (g : GlobalVariable) (x : Binding) (id : ℕ) (s : State) → bindingDecorated x id s
+    ≡ decorateBinding (eqb (boundNumber x) 1) (record { name = nameAt b 0; type = g .ty; space = spaceNumber (g .space); access = spaceAccess (g .space); bound = boundNumber x; group = groupNumber x; binding = bindingNumber x; init = constantOf (g .init) }) id s
+as-bound b g Unbound id s = refl
+as-bound b g (Bound r) id s = refl
+
+module _ (flags : ℕ) (b : List ℕ) (g : GlobalVariable) (s : State) where
+  -- the rule, by what is read for it and by its id
+  abbrev run : ℕ → Option ℕ → (ℕ → State → State) → (State → Got) → Option ℕ → Bool → ℕ → State
+  run id access bind point base null class =
+      let a = bind id (decorateAccess access id (labelIf (eqb (flags % 2) 1) (name id) (nameAt b 0) (takeId s))) in
+      let p = point a in
+      let z = initFor (constantOf (g .init)) null (g .ty) (blockBase (eqb (spaceNumber (g .space)) 4) base (p .state)) in
+      declare (variable (p .id) id class (z .init)) (z .state)
+
+  abbrev gl : Global
+  gl = globalOf b g
+
+  abbrev nulls : Bool
+  nulls = eqb (spaceNumber (g .space)) 1 || (eqb (spaceNumber (g .space)) 2 && eqb (flags / 2 % 2) 1)
+
+  -- the same with the definition's parts
+  abbrev ruled : List TypeEntry → List Remap → State
+  ruled ts rs =
+      run (suc (s .last)) (accessOf ts gl) (λ id t. decorateBinding (eqb (boundNumber (g .binding)) 1) gl id t) (λ t. pointerOf (wayIn ts rs gl) ts gl t) (bindingBase (innerAt ts (g .ty))) nulls
+      (storageClass (spaceNumber (g .space)))
+
+  is-ruled : (d : Seen) (ts : List TypeEntry) (rs : List Remap) → d .types ≡ ts → d .remaps ≡ rs → ruled ts rs ≡ declareGlobal (optionsOf flags) d gl s
+  unfolding declareGlobal
+  is-ruled d ts rs et er = sym (λ j. ruled (et j) (er j))
+
+-- ---- the whole
+
+pub declared : (flags : ℕ) (ts : List TypeEntry) (rs : List Remap) (b : List ℕ) (g : GlobalVariable) {w : Writer} {T S : List ℕ} {t : Taken} → Took w t
+    → {v₁ : Writer} {S₁ : List ℕ} → Added (naming (nameEnd b 0 + 2)) (labelIf (eqb (flags % 2) 1) (name (t .id)) (nameAt b 0)) (t .writer) S v₁ S₁
+    → {a : Option ℕ} → a ≡ accessOf ts (globalOf b g) → {v₂ : Writer} {S₂ : List ℕ} → Added (annotating 6) (decorateAccess a (t .id)) v₁ S₁ v₂ S₂
+    → {v₃ : Writer} {S₃ : List ℕ} → Added (annotating 8) (bindingDecorated (g .binding) (t .id)) v₂ S₂ v₃ S₃
+    → (y : Way) → ((x : State) → pointerBy y g x ≡ pointerOf (wayIn ts rs (globalOf b g)) ts (globalOf b g) x)
+    → {p : Taken} {T₄ S₄ : List ℕ} → GotBy pointerCost (pointerBy y g) v₃ T S₃ p T₄ S₄
+    → {base : Option ℕ} → base ≡ bindingBase (innerAt ts (g .ty))
+    → {v₅ : Writer} {T₅ S₅ : List ℕ} → Kept (annotating 3) (blockBase (eqb (spaceNumber (g .space)) 4) base) (p .writer) T₄ S₄ v₅ T₅ S₅
+    → {null : Bool} → null ≡ (eqb (spaceNumber (g .space)) 1 || (eqb (spaceNumber (g .space)) 2 && eqb (flags / 2 % 2) 1))
+    → {z : Inited} {T₆ S₆ : List ℕ} → Initialised (initFor (constantOf (g .init)) null (g .ty)) v₅ T₅ S₅ z T₆ S₆
+    → {class : ℕ} → class ≡ storageClass (spaceNumber (g .space))
+    → {v₇ : Writer} {S₇ : List ℕ} → Added (declaring 5) (declare (variable (p .id) (t .id) class (initIn (z .there) (z .init)))) (z .writer) S₆ v₇ S₇
+    → GlobalKept (globalCost (nameEnd b 0)) flags ts rs (globalOf b g) w T S v₇ T₆ S₇
+declared flags ts rs b g {w = w} {T = T} {S = S} {t = t} p₀ q₁ {a = a} ea q₂ q₃ y ey {p = p} q₄ {base = base} eb q₅ {null = null} en {z = z} {T₆ = T₆} {S₆ = S₆} q₆ {class = class} ec {v₇ = v₇} {S₇ = S₇} q₇ =
+    let before = p₀ .grown ▹ q₁ .grown ▹ q₂ .grown ▹ q₃ .grown in
+    let based = before ▹ q₄ .grown ▹ q₅ .grown in
+    record {
+      grown = based ▹ q₆ .grown ▹ q₇ .grown;
+      tail = tail-then based (tail-then (before ▹ q₄ .grown) (tail-then before (tail-still refl T before) (q₄ .tail)) (q₅ .tail)) (tail-then (q₆ .grown) (q₆ .tail) (tail-still refl T₆ (q₇ .grown)));
+      held = λ d et er s h.
+          let id = t .id in
+          let ei : id ≡ suc (s .last) = p₀ .named ∙ ap suc (h .last) in
+          let s₁ = labelIf (eqb (flags % 2) 1) (name id) (nameAt b 0) (takeId s) in
+          let s₂ = decorateAccess a id s₁ in
+          let s₃ = bindingDecorated (g .binding) id s₂ in
+          let h₃ = q₃ .held T s₂ (q₂ .held T s₁ (q₁ .held T (takeId s) (p₀ .held T S s h))) in
+          let k = q₄ .gives s₃ h₃ in
+          let s₅ = blockBase (eqb (spaceNumber (g .space)) 4) base (pointerBy y g s₃ .state) in
+          let i = q₆ .gives s₅ (q₅ .held (pointerBy y g s₃ .state) (k .held)) in
+          let x = initFor (constantOf (g .init)) null (g .ty) s₅ in
+          let e₃ = fun-ext (λ (n : ℕ). fun-ext (λ (u : State). as-bound b g (g .binding) n u)) in
+          let e₄ = fun-ext ey in
+          subst (Held v₇ T₆ S₇)
+          ((λ j. declare (variable (k .named j) id class (i .named j)) (x .state))
+          ∙ (λ j. run flags b g s (ei j) (ea j) (e₃ j) (e₄ j) (eb j) (en j) (ec j))
+          ∙ is-ruled flags b g s d ts rs et er)
+          (q₇ .held T₆ (x .state) (i .held));
+    }
+
+-- ---- of a record
+
+module _ {n : ℕ} (r : Record) (tested : Tested n r) {b : List ℕ} (eb : b ≡ r .body) where
+  -- what was taken from its body is its global
+  pub as-read : (g : GlobalVariable) → Read b g → globalOf b g ≡ globalIn r
+  as-read g t = t (subst (λ (x : List ℕ). valuesFit (global (globalFields x (nameEnd x 0) .value)) ≡ true) (sym eb) (tested .values)) ∙ ap (λ (x : List ℕ). globalFields x (nameEnd x 0) .value) eb
+
+  -- three bytes stand before its body, and fifteen behind its name
+  price : AtMost (globalCost (nameEnd b 0)) (recordCost (length (r .body) + 3))
+  unfolding globalFields
+  price =
+      let e : nameEnd b 0 ≡ nameEnd (r .body) 0 = ap (λ (x : List ℕ). nameEnd x 0) eb in
+      let w : nameEnd (r .body) 0 + 15 ≡ length (r .body) = tested .whole in
+      omega (arith, e, w)
+
+  pub record-room : {w : Writer} {T S : List ℕ} → Room (recordCost (length (r .body) + 3)) w T S → Room (globalCost (nameEnd b 0)) w T S
+  record-room room = let m = price in record { rows = omega (arith, m, room .rows); words = omega (arith, m, room .words) }
+
+  pub record-kept : {flags : ℕ} {ts : List TypeEntry} {rs : List Remap} {g : Global} → g ≡ globalIn r → {w v : Writer} {T S T′ S′ : List ℕ}
+      → GlobalKept (globalCost (nameEnd b 0)) flags ts rs g w T S v T′ S′ → GlobalKept (recordCost (length (r .body) + 3)) flags ts rs (globalIn r) w T S v T′ S′
+  record-kept {flags = flags} e {v = v} {T′ = T′} {S′ = S′} k = record {
+    grown = grown-within price (k .grown);
+    tail = k .tail;
+    held = λ d et er s h. subst (λ (g : Global). Held v T′ S′ (declareGlobal (optionsOf flags) d g s)) e (k .held d et er s h);
+  }

@@ -1,0 +1,47 @@
+-- The decoration is put, or nothing is.
+use mathlib.Core.Path.{ap}
+use mathlib.Core.Bool.{Bool}
+use mathlib.Core.List.{[]}
+use native.Mathlib.Omega.{arith}
+use borrow.Author.Needs.{needs}
+use Rattle.definition.specs.Rules.{annotateIf}
+use Rattle.definition.specs.Instructions.{decorate}
+use Rattle.writer.specs.Cost.{annotating}
+use Rattle.writer_globals.proofs.Notes.{still, if-there}
+use Rattle.writer_globals.proofs.decorations.decorate_if.Statement.{statement}
+use Rattle.writer_globals.proofs.decorations.decorate_if.Tie as tie
+
+low-word-requires : tie.Need-low-word-requires
+low-word-requires c κs = search needs
+
+slice-aggregate-annotate : tie.Need-slice-aggregate-annotate
+slice-aggregate-annotate c = search needs
+
+annotate-requires : tie.Need-annotate-requires
+annotate-requires c κs = search needs
+
+same-length : tie.Need-same-length
+same-length c = search needs
+
+returns : tie.Need-returns
+returns c =
+    let c₁ = c .before .before .before .before in
+    let c₂ = c₁ .before .before in
+    let c₃ = c₂ .before .before in
+    let a = c₃ .args in
+    if-there (a .id) (a .decoration) (omega (arith, c₃ .fits)) (a .there) (c₂ .if1 .taken) (c₁ .low-word .ensures) (c .before .before .annotate .ensures)
+
+returns-2 : tie.Need-returns-2
+returns-2 c = let a = c .before .before .args in
+    still (annotating 3) (a .w) (a .sections .now) (λ s. ap (λ (q : Bool). annotateIf q (decorate (a .id) (a .decoration) []) s) (c .if1 .left))
+
+pub decorate-if-spec : {M : Type 1} → statement M
+decorate-if-spec =
+    tie.close
+    (tie.spec
+    low-word-requires
+    slice-aggregate-annotate
+    annotate-requires
+    same-length
+    returns
+    returns-2)

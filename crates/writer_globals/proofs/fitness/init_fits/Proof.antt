@@ -1,0 +1,48 @@
+-- No init fits; one outside Private never does; else by the two type ids.
+use mathlib.Core.Path.{ap}
+use borrow.Author.Needs.{needs}
+use Rattle.entries.specs.Globals.{constantOf}
+use Rattle.writer_globals.proofs.Chain.{no-init, elsewhere, of-type}
+use Rattle.writer_globals.proofs.fitness.init_fits.Statement.{statement}
+use Rattle.writer_globals.proofs.fitness.init_fits.Tie as tie
+
+enum-told : tie.Need-enum-told
+enum-told c = search needs
+
+enum-known-init : tie.Need-enum-known-init
+enum-known-init c = search needs
+
+returns : tie.Need-returns
+returns c = λ S s h g es et. elsewhere s g es et (constantOf (c .before .before .before .before .before .args .init)) (ap constantOf (c .before .before .init .given .1)) (c .if1 .taken)
+
+cast-value-at : tie.Need-cast-value-at
+cast-value-at c = search needs
+
+value-at-requires : tie.Need-value-at-requires
+value-at-requires c κs = search needs
+
+type-id-requires : tie.Need-type-id-requires
+type-id-requires c κs = search needs
+
+returns-2 : tie.Need-returns-2
+returns-2 c = λ S s h g es et. no-init s g es et (constantOf (c .before .before .before .args .init)) (ap constantOf (c .enum-told .given .1))
+
+returns-3 : tie.Need-returns-3
+returns-3 c =
+    let c₁ = c .before .before .before in
+    let c₂ = c₁ .before .before in
+    let c₃ = c₂ .before .before .before in
+    λ S s h g es et. of-type s g es et (constantOf (c₃ .args .init)) (ap constantOf (c₂ .init .given .1)) (c₁ .if1 .left) (c .before .before .value-at .ensures .held S s h .type) (c .before .type-id .ensures S s h)
+
+pub init-fits-spec : {M : Type 1} → statement M
+init-fits-spec =
+    tie.close
+    (tie.spec
+    enum-told
+    enum-known-init
+    returns
+    cast-value-at
+    value-at-requires
+    type-id-requires
+    returns-2
+    returns-3)

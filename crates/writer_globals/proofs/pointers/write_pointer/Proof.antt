@@ -1,0 +1,102 @@
+-- Each way by its own callee: its promise is the way's pointer under the class that was found.
+-- Each has its own cost, which is within the one of all three.
+use mathlib.Core.Path.{sym, ap}
+use native.Mathlib.Omega.{arith}
+use borrow.Author.Needs.{needs}
+use Rattle.kinds.specs.Numbers.{spaceNumber}
+use Rattle.writer_globals.specs.declared.pointers.Way.{Way}
+use Rattle.writer_globals.specs.Globals.{pointerBy}
+use Rattle.writer_globals.specs.Costs.{pointerCost}
+use Rattle.writer_globals.proofs.Ways.{class-low, cheaper, by-direct, by-wrapper}
+use Rattle.writer_globals.proofs.pointers.write_pointer.Statement.{statement}
+use Rattle.writer_globals.proofs.pointers.write_pointer.Tie as tie
+
+map-storage-class-requires : tie.Need-map-storage-class-requires
+map-storage-class-requires c κs = search needs
+
+enum-told : tie.Need-enum-told
+enum-told c = search needs
+
+cast-t15 : tie.Need-cast-t15
+cast-t15 c = omega (arith, c .before .before .map-storage-class .ensures, class-low (spaceNumber (c .before .before .before .before .before .args .g .space)))
+
+get-type-id-requires : tie.Need-get-type-id-requires
+get-type-id-requires c κs = search needs
+
+enum-known-way : tie.Need-enum-known-way
+enum-known-way c = search needs
+
+write-wrapper-requires : tie.Need-write-wrapper-requires
+write-wrapper-requires c κs = search needs
+
+enum-known-way-2 : tie.Need-enum-known-way-2
+enum-known-way-2 c = search needs
+
+get-type-id-requires-2 : tie.Need-get-type-id-requires-2
+get-type-id-requires-2 c κs = search needs
+
+same-length : tie.Need-same-length
+same-length c = search needs
+
+same-length-2 : tie.Need-same-length-2
+same-length-2 c = search needs
+
+returns : tie.Need-returns
+returns c =
+    let c₁ = c .before .before .before .before in
+    let c₂ = c₁ .before .before .before in
+    let c₃ = c₂ .before .before in
+    let c₄ = c₃ .before .before .before in
+    let a = c₄ .args in
+    cheaper pointerCost (omega arith) (λ s. by-direct (a .way) (a .g) (c₃ .map-storage-class .ensures) s (c₂ .enum-told .given .1)) (c₁ .get-type-id .ensures)
+
+same-length-3 : tie.Need-same-length-3
+same-length-3 c = search needs
+
+same-length-4 : tie.Need-same-length-4
+same-length-4 c = search needs
+
+returns-2 : tie.Need-returns-2
+returns-2 c =
+    let c₁ = c .before .before .before .before in
+    let c₂ = c₁ .before .before .before .before in
+    let c₃ = c₂ .before .before in
+    let c₄ = c₃ .before .before .before in
+    let a = c₄ .args in
+    cheaper pointerCost (omega arith) (λ s. by-wrapper (a .way) (a .g) (c₃ .map-storage-class .ensures) s (c₂ .way .given .1)) (c₁ .write-wrapper .ensures)
+
+same-length-5 : tie.Need-same-length-5
+same-length-5 c = search needs
+
+same-length-6 : tie.Need-same-length-6
+same-length-6 c = search needs
+
+returns-3 : tie.Need-returns-3
+returns-3 c =
+    let c₁ = c .before .before .before .before in
+    let c₂ = c₁ .before .before .before .before in
+    let c₃ = c₂ .before .before .before .before .before in
+    let a = c₃ .args in
+    cheaper pointerCost (omega arith) (λ s. sym (ap (λ (x : Way). pointerBy x (a .g) s) (c₂ .way2 .given .1))) (c₁ .get-type-id2 .ensures)
+
+pub write-pointer-spec : {M : Type 1} → statement M
+write-pointer-spec =
+    tie.close
+    (tie.spec
+    map-storage-class-requires
+    enum-told
+    cast-t15
+    get-type-id-requires
+    enum-known-way
+    write-wrapper-requires
+    enum-known-way-2
+    get-type-id-requires-2
+    same-length
+    same-length-2
+    returns
+    same-length-3
+    same-length-4
+    returns-2
+    same-length-5
+    same-length-6
+    returns-3)

@@ -1,0 +1,93 @@
+-- A global's declaration by what was read for it: the definition's rules, with their reading of the types done.
+use Prim.Native.Nat.{ℕ, suc}
+use mathlib.Core.Path.{_≡_}
+use mathlib.Core.Bool.{Bool}
+use mathlib.Core.List.{List, [], _∷_}
+use mathlib.Core.Option.{Option, some, none}
+use Rattle.definition.specs.Choice.{pick}
+use Rattle.definition.specs.Numbers.{DecorationOffset, DecorationBinding, DecorationDescriptorSet}
+use Rattle.definition.specs.Instructions.{decorate, memberDecorate, typeStruct, typePointer}
+use Rattle.definition.specs.Sheet.{TypeEntry, Remap, Global, optionsOf}
+use Rattle.definition.specs.Shapes.{storageClass, pointer, bindingPointer, entry, shape}
+use Rattle.definition.specs.State.{State, Got, got, takeId, annotate, declare}
+use Rattle.definition.specs.Tests.{Seen}
+use Rattle.definition.specs.Finding.{find}
+use Rattle.definition.specs.Rules.{GotInit, block, strideMember, needsWrapper, isBound, bindingBase, remapOf, innerAt, remappedWay, direct, wrapped, declareGlobal}
+use Rattle.definition.specs.Rules as Defined
+use Rattle.kinds.specs.Numbers.{spaceNumber, spaceAccess}
+use Rattle.entries.specs.declared.globals.Binding.{Binding}
+use Rattle.entries.specs.declared.globals.Binding.the-variants.{Unbound, Bound}
+use Rattle.entries.specs.declared.globals.GlobalVariable.{GlobalVariable}
+use Rattle.type_facts.specs.Facets.{numberOf}
+use Rattle.writer.specs.declared.Writer.{Writer}
+use Rattle.writer.specs.Cost.{Cost}
+use Rattle.writer.specs.Held.{Held, Grown}
+use Rattle.writer.specs.Steps.{Tail}
+use Rattle.finding.specs.Costs.{nullCost}
+use Rattle.writer_globals.specs.declared.pointers.Way.{Way}
+use Rattle.writer_globals.specs.declared.pointers.Way.the-variants.{Direct, Wrapped, Remapped}
+use Rattle.writer_globals.specs.declared.Inited.{Inited}
+
+-- a change of the state that touches the sections alone
+pub record Added (c : Cost) (f : State → State) (w : Writer) (S : List ℕ) (v : Writer) (S′ : List ℕ) : Type 0 where
+  pub grown : Grown c w v
+  pub held : (T : List ℕ) (s : State) → Held w T S s → Held v T S′ (f s)
+
+-- ---- the pointer
+
+-- the wrapper of a type, by its column stride
+abbrev pub wrapIn : Option ℕ → ℕ → ℕ → State → Got
+wrapIn o t class s =
+    let w = suc (s .last) in
+    let g = find (entry t) (strideMember o w 0 (annotate (memberDecorate w 0 DecorationOffset (0 ∷ [])) (annotate (block w) (takeId s)))) in
+    let u = declare (typeStruct w (g .id ∷ [])) (g .state) in
+    got (suc (u .last)) (declare (typePointer (suc (u .last)) class w) (takeId u))
+
+-- the pointer of a global, by the way to it
+abbrev pub pointerBy : Way → GlobalVariable → State → Got
+pointerBy Direct g s = find (shape (pointer (g .ty) (storageClass (spaceNumber (g .space))))) s
+pointerBy (Wrapped d) g s = wrapIn (numberOf d) (g .ty) (storageClass (spaceNumber (g .space))) s
+pointerBy (Remapped b n) g s = find (shape (bindingPointer b n (spaceNumber (g .space)) (spaceAccess (g .space)))) s
+
+-- the size to which a binding is remapped
+abbrev pub sizeFor : List Remap → Binding → Option ℕ
+sizeFor rs Unbound = none
+sizeFor rs (Bound r) = remapOf rs (r .group) (r .binding)
+
+-- the definition's way, by the types and the remaps alone
+abbrev pub wayIn : List TypeEntry → List Remap → Global → Defined.Way
+wayIn ts rs g =
+    pick (needsWrapper ts g) wrapped
+    (pick (isBound g) (remappedWay (bindingBase (innerAt ts (g .type))) (remapOf rs (g .group) (g .binding))) direct)
+
+-- ---- decorations
+
+-- DescriptorSet and Binding, of a binding that is there
+abbrev pub bindingDecorated : Binding → ℕ → State → State
+bindingDecorated Unbound id s = s
+bindingDecorated (Bound r) id s = annotate (decorate id DecorationBinding (r .binding ∷ [])) (annotate (decorate id DecorationDescriptorSet (r .group ∷ [])) s)
+
+-- ---- the init
+
+-- an id that may be missing
+abbrev pub initIn : Bool → ℕ → Option ℕ
+initIn there id = pick there (some id) none
+
+-- the init, and the state in which it is declared, are held
+pub record InitGiven (g : GotInit) (r : Inited) (T S : List ℕ) : Type 0 where
+  pub named : initIn (r .there) (r .init) ≡ g .init
+  pub held : Held (r .writer) T S (g .state)
+
+-- an init is come by
+pub record Initialised (f : State → GotInit) (w : Writer) (T S : List ℕ) (r : Inited) (T′ S′ : List ℕ) : Type 0 where
+  pub grown : Grown nullCost w (r .writer)
+  pub tail : Tail w T (r .writer) T′
+  pub gives : (s : State) → Held w T S s → InitGiven (f s) r T′ S′
+
+-- ---- the whole
+
+-- a global is declared, given the types and the remaps, whatever else was read
+pub record GlobalKept (c : Cost) (flags : ℕ) (ts : List TypeEntry) (rs : List Remap) (g : Global) (w : Writer) (T S : List ℕ) (v : Writer) (T′ S′ : List ℕ) : Type 0 where
+  pub grown : Grown c w v
+  pub tail : Tail w T v T′
+  pub held : (d : Seen) → d .types ≡ ts → d .remaps ≡ rs → (s : State) → Held w T S s → Held v T′ S′ (declareGlobal (optionsOf flags) d g s)

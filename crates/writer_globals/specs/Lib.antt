@@ -1,0 +1,4 @@
+pub mod Costs
+pub mod Globals
+pub mod Records
+pub mod Fitness

@@ -1,0 +1,124 @@
+// What a global's id is decorated with, its name, and Block on the base of a Storage binding array.
+use crate::BINDING;
+use crate::BLOCK;
+use crate::DESCRIPTOR_SET;
+use crate::NON_READABLE;
+use crate::NON_WRITABLE;
+use crate::OP_DECORATE;
+use crate::STORAGE;
+use entries::globals::Binding;
+use entries::globals::GlobalVariable;
+use kinds::AddressSpace;
+use kinds::space_access;
+use kinds::space_number;
+use lookup::LookupType;
+use type_facts::Access;
+use type_facts::Base;
+use writer::Writer;
+use writer::low_word;
+ghost use mathlib.Core.Path.{_≡_};
+ghost use mathlib.Core.List.{List, []};
+ghost use Prim.Native.Nat.{ℕ, _+_, _≤_};
+ghost use lib.Dec.{eqb};
+ghost use lib.ListN.{length};
+ghost use Rattle.definition.specs.Bytes.{nameAt, nameEnd};
+ghost use Rattle.definition.specs.Instructions.{decorate, name};
+ghost use Rattle.definition.specs.Sheet.{storageSpace};
+ghost use Rattle.definition.specs.Rules.{annotateIf, labelIf, accessOf, decorateAccess, blockBase};
+ghost use Rattle.kinds.specs.Numbers.{spaceNumber};
+ghost use Rattle.records.specs.Places.{typesFrom};
+ghost use Rattle.entries.specs.Globals.{globalOf};
+ghost use Rattle.type_facts.specs.Facets.{byteOf, indexOf};
+ghost use Rattle.writer.specs.Cost.{annotating, naming};
+ghost use Rattle.writer.specs.Held.{RoomFor, Room};
+ghost use Rattle.writer.specs.Steps.{Kept};
+ghost use Rattle.writer_globals.specs.Globals.{Added, bindingDecorated};
+
+// A decoration without operands, where it is asked for.
+fn decorate_if(sections: &mut [u32], w: Writer, there: bool, id: u64, decoration: u32) -> Writer
+    requires { ⌜ RoomFor (annotating 3) w (now sections) ⌝ }
+    ensures { λ r. ⌜ Added (annotating 3) (annotateIf there (decorate id decoration [])) w (now (sections .entry)) r (now (sections .exit)) ⌝ }
+{
+    if there {
+        return writer::annotate(sections, w, OP_DECORATE, &[low_word(id), decoration]);
+    }
+    w
+}
+
+// The access of a global: of its space if that is Storage, else of its type if that is a storage image.
+pub fn access_of(s: &[u8], types: &[u32], n: usize, g: GlobalVariable) -> Access
+    requires { ⌜ n ≤ length (now types) ⌝ }
+    ensures { λ r. ⌜ ((b : List ℕ) → byteOf r ≡ accessOf (typesFrom (now (s .entry)) (now (types .entry)) n) (globalOf b g)) ⌝ }
+{
+    let space = g.space;
+    if space_number(space) == STORAGE {
+        return Access::Of(space_access(space));
+    }
+    type_facts::image_access(s, types, n, g.ty as usize)
+}
+
+// Bit 0 of an access is load, bit 1 store.
+pub fn decorate_access(sections: &mut [u32], w: Writer, id: u64, a: Access) -> Writer
+    requires { ⌜ RoomFor (annotating 6) w (now sections) ⌝ }
+    ensures { λ r. ⌜ Added (annotating 6) (decorateAccess (byteOf a) id) w (now (sections .entry)) r (now (sections .exit)) ⌝ }
+{
+    match a {
+        Access::Nothing => w,
+        Access::Of(x) => {
+            let v = decorate_if(sections, w, x % 2 == 0, id, NON_READABLE);
+            decorate_if(sections, v, x / 2 % 2 == 0, id, NON_WRITABLE)
+        }
+    }
+}
+
+pub fn decorate_binding(sections: &mut [u32], w: Writer, id: u64, binding: Binding) -> Writer
+    requires { ⌜ RoomFor (annotating 8) w (now sections) ⌝ }
+    ensures { λ r. ⌜ Added (annotating 8) (bindingDecorated binding id) w (now (sections .entry)) r (now (sections .exit)) ⌝ }
+{
+    match binding {
+        Binding::Unbound => w,
+        Binding::Bound(r) => {
+            let t = low_word(id);
+            let a = writer::annotate(sections, w, OP_DECORATE, &[t, DESCRIPTOR_SET, r.group]);
+            writer::annotate(sections, a, OP_DECORATE, &[t, BINDING, r.binding])
+        }
+    }
+}
+
+// The name that stands at the front of the body b.
+pub fn name_global(sections: &mut [u32], w: Writer, debug: bool, id: u64, b: &[u8]) -> Writer
+    requires { ⌜ RoomFor (naming (nameEnd (now b) 0 + 2)) w (now sections) ⌝ }
+    ensures { λ r. ⌜ Added (naming (nameEnd (now (b .entry)) 0 + 2)) (labelIf debug (name id) (nameAt (now (b .entry)) 0)) w (now (sections .entry)) r (now (sections .exit)) ⌝ }
+{
+    if !debug {
+        return w;
+    }
+    let k = fields::u8_at(b, 0);
+    if k == 255 {
+        return w;
+    }
+    writer::label(sections, w, id, fields::part(b, 1, k as usize))
+}
+
+// A Storage global is never wrapped where its type is a binding array: Block goes on the base, once for each such global.
+pub fn block_base(
+    tables: &mut [u64],
+    sections: &mut [u32],
+    w: Writer,
+    space: AddressSpace,
+    base: Base,
+) -> Writer
+    requires { ⌜ Room (annotating 3) w (now tables) (now sections) ⌝ }
+    ensures { λ r. ⌜ Kept (annotating 3) (blockBase (eqb (spaceNumber space) storageSpace) (indexOf base)) w (now (tables .entry)) (now (sections .entry)) r (now (tables .exit)) (now (sections .exit)) ⌝ }
+{
+    if space_number(space) != STORAGE {
+        return w;
+    }
+    match base {
+        Base::Nothing => w,
+        Base::Of(b) => {
+            let f = finding::get_type_id(tables, sections, w, LookupType::Handle(b));
+            writer::annotate(sections, f.writer, OP_DECORATE, &[low_word(f.id), BLOCK])
+        }
+    }
+}

@@ -1,0 +1,220 @@
+// Globals: test 13 of one, and its declaration: its name and decorations, its pointer, Block on the base, its init, then
+// the variable. Whatever is read of the sheet is read first.
+mod decorations;
+pub mod fitness;
+mod pointers;
+
+use decorations::access_of;
+use decorations::block_base;
+use decorations::decorate_access;
+use decorations::decorate_binding;
+use decorations::name_global;
+use entries::globals::GlobalVariable;
+use entries::globals::Init;
+use kinds::AddressSpace;
+use kinds::space_number;
+use lookup::LookupType;
+use pointers::way_of;
+use pointers::write_pointer;
+use spirv::helpers::map_storage_class;
+use writer::Writer;
+use writer::low_word;
+ghost use mathlib.Core.Path.{_≡_};
+ghost use mathlib.Core.Bool.{_&&_, _||_};
+ghost use mathlib.Core.List.{map};
+ghost use Prim.Native.Nat.{_+_, _≤_};
+ghost use lib.Dec.{eqb};
+ghost use lib.ListN.{length, take};
+ghost use Rattle.definition.specs.Bytes.{nameEnd};
+ghost use Rattle.definition.specs.Instructions.{variable};
+ghost use Rattle.definition.specs.Sheet.{recordAt, privateSpace, workGroupSpace};
+ghost use Rattle.definition.specs.State.{declare};
+ghost use Rattle.definition.specs.Rules.{initFor};
+ghost use Rattle.kinds.specs.Numbers.{spaceNumber};
+ghost use Rattle.records.specs.Places.{remapFrom, typesFrom};
+ghost use Rattle.entries.specs.Globals.{globalOf, constantOf};
+ghost use Rattle.writer.specs.Cost.{declaring, recordCost};
+ghost use Rattle.writer.specs.Held.{RoomFor, Room};
+ghost use Rattle.finding.specs.Costs.{nullCost};
+ghost use Rattle.writer_globals.specs.Costs.{globalCost};
+ghost use Rattle.writer_globals.specs.Globals.{Added, initIn, Initialised, GlobalKept};
+ghost use Rattle.writer_globals.specs.Records.{globalIn, Tested};
+
+const OP_TYPE_STRUCT: u32 = 30;
+
+const OP_TYPE_POINTER: u32 = 32;
+
+const OP_VARIABLE: u32 = 59;
+
+const OP_DECORATE: u32 = 71;
+
+const OP_MEMBER_DECORATE: u32 = 72;
+
+const BLOCK: u32 = 2;
+
+const COL_MAJOR: u32 = 5;
+
+const MATRIX_STRIDE: u32 = 7;
+
+const NON_WRITABLE: u32 = 24;
+
+const NON_READABLE: u32 = 25;
+
+const BINDING: u32 = 33;
+
+const DESCRIPTOR_SET: u32 = 34;
+
+const OFFSET: u32 = 35;
+
+// Spaces, as document 01 numbers them.
+const FUNCTION: u8 = 0;
+
+const PRIVATE: u8 = 1;
+
+const WORK_GROUP: u8 = 2;
+
+const UNIFORM: u8 = 3;
+
+const STORAGE: u8 = 4;
+
+const HANDLE: u8 = 5;
+
+// The id of a global's init, if it has one.
+pub struct Inited {
+    pub there: bool,
+    pub init: u64,
+    pub writer: Writer,
+}
+
+// ---- the init
+
+// Whether a global without an init is null from the start: Private, or WorkGroup if memory is zeroed.
+fn gets_null(space: AddressSpace, zeroing: bool) -> bool
+    ensures { λ r. ⌜ r ≡ (eqb (spaceNumber space) privateSpace || (eqb (spaceNumber space) workGroupSpace && zeroing)) ⌝ }
+{
+    match space_number(space) {
+        PRIVATE => true,
+        WORK_GROUP => zeroing,
+        _ => false,
+    }
+}
+
+fn write_init(
+    tables: &mut [u64],
+    sections: &mut [u32],
+    w: Writer,
+    init: Init,
+    null: bool,
+    ty: u16,
+) -> Inited
+    requires { ⌜ Room nullCost w (now tables) (now sections) ⌝ }
+    ensures { λ r. ⌜ Initialised (initFor (constantOf init) null ty) w (now (tables .entry)) (now (sections .entry)) r (now (tables .exit)) (now (sections .exit)) ⌝ }
+{
+    match init {
+        Init::Constant(c) => {
+            let x = writer::value_at(tables, w, c as usize);
+            Inited {
+                there: true,
+                init: x.id,
+                writer: w,
+            }
+        }
+        Init::Missing => {
+            if !null {
+                return Inited {
+                    there: false,
+                    init: 0,
+                    writer: w,
+                };
+            }
+            let f = finding::get_type_id(tables, sections, w, LookupType::Handle(ty));
+            let z = finding::write_constant_null(tables, sections, f.writer, f.id);
+            let v = z.writer;
+            Inited {
+                there: true,
+                init: z.id,
+                writer: v,
+            }
+        }
+    }
+}
+
+// ---- the variable
+
+fn put_variable(
+    sections: &mut [u32],
+    w: Writer,
+    ty: u64,
+    id: u64,
+    class: u32,
+    there: bool,
+    init: u64,
+) -> Writer
+    requires { ⌜ RoomFor (declaring 5) w (now sections) ⌝ }
+    ensures { λ r. ⌜ Added (declaring 5) (declare (variable ty id class (initIn there init))) w (now (sections .entry)) r (now (sections .exit)) ⌝ }
+{
+    let x = low_word(ty);
+    let y = low_word(id);
+    if there {
+        return writer::declare(sections, w, OP_VARIABLE, &[x, y, class, low_word(init)]);
+    }
+    writer::declare(sections, w, OP_VARIABLE, &[x, y, class])
+}
+
+// The global g of body b, given the first n types and the first m remaps of the sheet s.
+fn write_global_variable(
+    tables: &mut [u64],
+    sections: &mut [u32],
+    w: Writer,
+    s: &[u8],
+    types: &[u32],
+    n: usize,
+    remaps: &[u32],
+    m: usize,
+    b: &[u8],
+    g: GlobalVariable,
+    flags: u8,
+) -> Writer
+    requires { ⌜ (n ≤ length (now types)) × (m ≤ length (now remaps)) × Room (globalCost (nameEnd (now b) 0)) w (now tables) (now sections) ⌝ }
+    ensures { λ r. ⌜ GlobalKept (globalCost (nameEnd (now (b .entry)) 0)) flags (typesFrom (now (s .entry)) (now (types .entry)) n) (map (remapFrom (now (s .entry))) (take m (now (remaps .entry)))) (globalOf (now (b .entry)) g) w (now (tables .entry)) (now (sections .entry)) r (now (tables .exit)) (now (sections .exit)) ⌝ }
+{
+    let ty = g.ty;
+    let space = g.space;
+    let binding = g.binding;
+    let init = g.init;
+    let access = access_of(s, types, n, g);
+    let way = way_of(s, types, n, remaps, m, g);
+    let base = type_facts::binding_base(s, types, n, g.ty as usize);
+    let null = gets_null(space, flags / 2 % 2 == 1);
+    let class = map_storage_class(space);
+    let t = writer::take_id(w);
+    let id = t.id;
+    let a = name_global(sections, t.writer, flags % 2 == 1, id, b);
+    let c = decorate_access(sections, a, id, access);
+    let e = decorate_binding(sections, c, id, binding);
+    let p = write_pointer(tables, sections, e, way, g);
+    let f = block_base(tables, sections, p.writer, space, base);
+    let z = write_init(tables, sections, f, init, null, ty);
+    put_variable(sections, z.writer, p.id, id, class, z.there, z.init)
+}
+
+// The global of the record at the front of `rest`: what test 10 lets through is declared as it was read.
+pub fn write_global(
+    tables: &mut [u64],
+    sections: &mut [u32],
+    w: Writer,
+    s: &[u8],
+    types: &[u32],
+    n: usize,
+    remaps: &[u32],
+    m: usize,
+    rest: &[u8],
+    flags: u8,
+) -> Writer
+    requires { ⌜ (n ≤ length (now types)) × (m ≤ length (now remaps)) × Tested n (recordAt (now rest)) × Room (recordCost (length (recordAt (now rest) .body) + 3)) w (now tables) (now sections) ⌝ }
+    ensures { λ r. ⌜ GlobalKept (recordCost (length (recordAt (now (rest .entry)) .body) + 3)) flags (typesFrom (now (s .entry)) (now (types .entry)) n) (map (remapFrom (now (s .entry))) (take m (now (remaps .entry)))) (globalIn (recordAt (now (rest .entry)))) w (now (tables .entry)) (now (sections .entry)) r (now (tables .exit)) (now (sections .exit)) ⌝ }
+{
+    let b = records::body_of(rest);
+    let g = entries::globals::global_of(b);
+    write_global_variable(tables, sections, w, s, types, n, remaps, m, b, g, flags)
+}

@@ -1,0 +1,152 @@
+// The pointer type of a global. How it is come by is read from the sheet first; what is written then never sees the sheet.
+use crate::BLOCK;
+use crate::COL_MAJOR;
+use crate::MATRIX_STRIDE;
+use crate::OFFSET;
+use crate::OP_DECORATE;
+use crate::OP_MEMBER_DECORATE;
+use crate::OP_TYPE_POINTER;
+use crate::OP_TYPE_STRUCT;
+use entries::globals::Binding;
+use entries::globals::GlobalVariable;
+use lookup::LocalType;
+use lookup::LookupType;
+use spirv::helpers::map_storage_class;
+use type_facts::Base;
+use type_facts::Number;
+use writer::Taken;
+use writer::Writer;
+use writer::low_word;
+ghost use mathlib.Core.Path.{_≡_};
+ghost use mathlib.Core.List.{List, map};
+ghost use Prim.Native.Nat.{ℕ, _≤_};
+ghost use lib.ListN.{length, take};
+ghost use Rattle.definition.specs.State.{State};
+ghost use Rattle.definition.specs.Rules.{strideMember, pointerOf};
+ghost use Rattle.records.specs.Places.{remapFrom, typesFrom};
+ghost use Rattle.entries.specs.Globals.{globalOf};
+ghost use Rattle.type_facts.specs.Facets.{numberOf};
+ghost use Rattle.writer.specs.Cost.{annotating};
+ghost use Rattle.writer.specs.Held.{RoomFor, Room};
+ghost use Rattle.writer.specs.Steps.{GotBy};
+ghost use Rattle.writer_globals.specs.Costs.{wrapperCost, pointerCost};
+ghost use Rattle.writer_globals.specs.Globals.{Added, wrapIn, pointerBy, wayIn, sizeFor};
+
+// How a global's pointer is come by.
+pub enum Way {
+    Direct,
+    Wrapped { stride: Number },
+    Remapped { base: u16, size: u32 },
+}
+
+// ---- the wrapper
+
+// The column stride of a wrapper's member.
+fn stride_member(sections: &mut [u32], w: Writer, id: u64, stride: Number) -> Writer
+    requires { ⌜ RoomFor (annotating 9) w (now sections) ⌝ }
+    ensures { λ r. ⌜ Added (annotating 9) (strideMember (numberOf stride) id 0) w (now (sections .entry)) r (now (sections .exit)) ⌝ }
+{
+    match stride {
+        Number::Nothing => w,
+        Number::Of(x) => {
+            let t = low_word(id);
+            let a = writer::annotate(sections, w, OP_MEMBER_DECORATE, &[t, 0, COL_MAJOR]);
+            writer::annotate(sections, a, OP_MEMBER_DECORATE, &[t, 0, MATRIX_STRIDE, x])
+        }
+    }
+}
+
+// A struct around a type, and the pointer to it. Each global has its own, so neither is looked for or entered.
+fn write_wrapper(
+    tables: &mut [u64],
+    sections: &mut [u32],
+    w: Writer,
+    ty: u16,
+    class: u32,
+    stride: Number,
+) -> Taken
+    requires { ⌜ Room wrapperCost w (now tables) (now sections) ⌝ }
+    ensures { λ r. ⌜ GotBy wrapperCost (wrapIn (numberOf stride) ty class) w (now (tables .entry)) (now (sections .entry)) r (now (tables .exit)) (now (sections .exit)) ⌝ }
+{
+    let n = writer::take_id(w);
+    let id = n.id;
+    let x = low_word(id);
+    let a = writer::annotate(sections, n.writer, OP_DECORATE, &[x, BLOCK]);
+    let b = writer::annotate(sections, a, OP_MEMBER_DECORATE, &[x, 0, OFFSET, 0]);
+    let c = stride_member(sections, b, id, stride);
+    let f = finding::get_type_id(tables, sections, c, LookupType::Handle(ty));
+    let d = writer::declare(sections, f.writer, OP_TYPE_STRUCT, &[x, low_word(f.id)]);
+    let p = writer::take_id(d);
+    let pointer = p.id;
+    let y = low_word(pointer);
+    let u = writer::declare(sections, p.writer, OP_TYPE_POINTER, &[y, class, x]);
+    Taken {
+        id: pointer,
+        writer: u,
+    }
+}
+
+// ---- the way
+
+// The size to which a global's binding is remapped; nothing remaps a global that is not bound.
+fn remapped_size(s: &[u8], remaps: &[u32], m: usize, binding: Binding) -> Number
+    requires { ⌜ m ≤ length (now remaps) ⌝ }
+    ensures { λ r. ⌜ numberOf r ≡ sizeFor (map (remapFrom (now (s .entry))) (take m (now (remaps .entry)))) binding ⌝ }
+{
+    match binding {
+        Binding::Unbound => Number::Nothing,
+        Binding::Bound(r) => type_facts::remap_of(s, remaps, m, r.group, r.binding),
+    }
+}
+
+// How the pointer of a global is come by, given the first n types and the first m remaps.
+pub fn way_of(s: &[u8], types: &[u32], n: usize, remaps: &[u32], m: usize, g: GlobalVariable) -> Way
+    requires { ⌜ (n ≤ length (now types)) × (m ≤ length (now remaps)) ⌝ }
+    ensures { λ r. ⌜ ((b : List ℕ) (x : State) → pointerBy r g x ≡ pointerOf (wayIn (typesFrom (now (s .entry)) (now (types .entry)) n) (map (remapFrom (now (s .entry))) (take m (now (remaps .entry)))) (globalOf b g)) (typesFrom (now (s .entry)) (now (types .entry)) n) (globalOf b g) x) ⌝ }
+{
+    let ty = g.ty as usize;
+    let space = g.space;
+    let binding = g.binding;
+    if type_facts::global_needs_wrapper(s, types, n, ty, space) {
+        let stride = type_facts::element_stride(s, types, n, ty);
+        return Way::Wrapped { stride };
+    }
+    match type_facts::binding_base(s, types, n, ty) {
+        Base::Nothing => Way::Direct,
+        Base::Of(base) => match remapped_size(s, remaps, m, binding) {
+            Number::Nothing => Way::Direct,
+            Number::Of(size) => Way::Remapped { base, size },
+        },
+    }
+}
+
+// ---- the pointer
+
+pub fn write_pointer(
+    tables: &mut [u64],
+    sections: &mut [u32],
+    w: Writer,
+    way: Way,
+    g: GlobalVariable,
+) -> Taken
+    requires { ⌜ Room pointerCost w (now tables) (now sections) ⌝ }
+    ensures { λ r. ⌜ GotBy pointerCost (pointerBy way g) w (now (tables .entry)) (now (sections .entry)) r (now (tables .exit)) (now (sections .exit)) ⌝ }
+{
+    let ty = g.ty;
+    let space = g.space;
+    let class = map_storage_class(space);
+    match way {
+        Way::Direct => {
+            let l = LocalType::Pointer {
+                base: ty,
+                class: class as u8,
+            };
+            finding::get_type_id(tables, sections, w, LookupType::Local(l))
+        }
+        Way::Wrapped { stride } => write_wrapper(tables, sections, w, ty, class, stride),
+        Way::Remapped { base, size } => {
+            let l = LocalType::PointerToBindingArray { base, size, space };
+            finding::get_type_id(tables, sections, w, LookupType::Local(l))
+        }
+    }
+}

@@ -1,0 +1,5 @@
+pub mod Arrays
+pub mod Members
+pub mod Inner
+pub mod Costs
+pub mod Tested

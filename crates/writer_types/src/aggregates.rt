@@ -1,0 +1,108 @@
+// Arrays, and a struct's instruction, each under the id that was taken for it.
+use lookup::LookupType;
+use writer::Writer;
+ghost use Prim.Native.Nat.{_+_, _<_};
+ghost use Rattle.definition.specs.Sheet.{membersAt};
+ghost use Rattle.writer.specs.Cost.{nothing, declaring};
+ghost use Rattle.writer.specs.Held.{RoomIn, RoomFor, Room};
+ghost use Rattle.writer.specs.Steps.{Kept};
+ghost use Rattle.writer_types.specs.Arrays.{elementsDeclared, arrayDeclared};
+ghost use Rattle.writer_types.specs.Members.{StructPut};
+ghost use Rattle.writer_types.specs.Costs.{elementsCost, arrayCost};
+
+const OP_TYPE_ARRAY: u32 = 28;
+
+const OP_TYPE_RUNTIME_ARRAY: u32 = 29;
+
+const OP_TYPE_STRUCT: u32 = 30;
+
+const OP_DECORATE: u32 = 71;
+
+const DECORATION_ARRAY_STRIDE: u32 = 6;
+
+// A BindingArray, and what an Array shares with it: the base is found, then the length; a size of 0 is dynamic.
+pub fn write_elements(
+    tables: &mut [u64],
+    sections: &mut [u32],
+    w: Writer,
+    id: u64,
+    base: u16,
+    size: u32,
+) -> Writer
+    requires { ⌜ Room elementsCost w (now tables) (now sections) ⌝ }
+    ensures { λ r. ⌜ Kept elementsCost (elementsDeclared base size id) w (now (tables .entry)) (now (sections .entry)) r (now (tables .exit)) (now (sections .exit)) ⌝ }
+{
+    let f = finding::get_type_id(tables, sections, w, LookupType::Handle(base));
+    if size == 0 {
+        return writer::declare(
+            sections,
+            f.writer,
+            OP_TYPE_RUNTIME_ARRAY,
+            &[writer::low_word(id), writer::low_word(f.id)],
+        );
+    }
+    let g = finding::get_index_constant(tables, sections, f.writer, size);
+    writer::declare(
+        sections,
+        g.writer,
+        OP_TYPE_ARRAY,
+        &[
+            writer::low_word(id),
+            writer::low_word(f.id),
+            writer::low_word(g.id),
+        ],
+    )
+}
+
+// An Array: its stride is written before its base and its length are found.
+pub fn write_array(
+    tables: &mut [u64],
+    sections: &mut [u32],
+    w: Writer,
+    id: u64,
+    base: u16,
+    size: u32,
+    stride: u32,
+) -> Writer
+    requires { ⌜ Room arrayCost w (now tables) (now sections) ⌝ }
+    ensures { λ r. ⌜ Kept arrayCost (arrayDeclared base size stride id) w (now (tables .entry)) (now (sections .entry)) r (now (tables .exit)) (now (sections .exit)) ⌝ }
+{
+    let a = writer::annotate(
+        sections,
+        w,
+        OP_DECORATE,
+        &[writer::low_word(id), DECORATION_ARRAY_STRIDE, stride],
+    );
+    write_elements(tables, sections, a, id, base, size)
+}
+
+// OpTypeStruct of the `count` members from `first` on. Its head goes out first, with the word count in the high half of the
+// first word, since the count is known; then an id a turn, so that the ids need no array. A member's type is an entry, and
+// finding an entry adds nothing.
+pub fn put_struct(
+    tables: &[u64],
+    sections: &mut [u32],
+    w: Writer,
+    b: &[u8],
+    id: u64,
+    first: usize,
+    count: u8,
+) -> Writer
+    requires { ⌜ (first < 1000) × (RoomIn nothing w (now tables) × RoomFor (declaring (count + 2)) w (now sections)) ⌝ }
+    ensures { λ r. ⌜ StructPut id (membersAt (now (b .entry)) first count) count w (now (tables .entry)) (now (sections .entry)) r (now (sections .exit)) ⌝ }
+{
+    writer::put_pending(sections, w, 0, 65536 * (count as u32 + 2) + OP_TYPE_STRUCT);
+    writer::put_pending(sections, w, 1, writer::low_word(id));
+    let mut p = first;
+    let mut k = count;
+    let mut j: usize = 2;
+    while 0 < k {
+        let ty = fields::u16_at(b, p);
+        let x = finding::type_id(tables, w, LookupType::Handle(ty));
+        writer::put_pending(sections, w, j, writer::low_word(x));
+        p = fields::name_end(b, p + 6);
+        j += 1;
+        k -= 1;
+    }
+    writer::commit(w, j)
+}

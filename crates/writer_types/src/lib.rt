@@ -1,0 +1,148 @@
+// The declaration of a type entry, whole: the Rust's `write_type_declaration_arena`. What it asks of the types before the
+// entry is read again from the sheet.
+mod aggregates;
+mod names;
+mod structs;
+
+use entries::types::TypeInner;
+use locals::Made;
+use lookup::LookupType;
+use writer::Taken;
+use writer::Writer;
+ghost use Prim.Native.Nat.{_+_, _≤_, _<_};
+ghost use lib.ListN.{length};
+ghost use Rattle.definition.specs.Sheet.{recordAt};
+ghost use Rattle.definition.specs.Rules.{declareAggregate, declareType};
+ghost use Rattle.records.specs.Places.{typeOf, typesFrom};
+ghost use Rattle.writer.specs.Cost.{recordCost};
+ghost use Rattle.writer.specs.Held.{Room};
+ghost use Rattle.writer.specs.Steps.{Kept, GotBy};
+ghost use Rattle.writer_types.specs.Inner.{innerIn, innerDeclared};
+ghost use Rattle.writer_types.specs.Costs.{aggregateCost, innerCost};
+ghost use Rattle.writer_types.specs.Tested.{Tested};
+
+// What an aggregate of body b is, under its id; the others are shapes.
+fn write_aggregate(
+    tables: &mut [u64],
+    sections: &mut [u32],
+    w: Writer,
+    s: &[u8],
+    types: &[u32],
+    n: usize,
+    b: &[u8],
+    debug: bool,
+    t: TypeInner,
+    id: u64,
+) -> Writer
+    requires { ⌜ (n ≤ length (now types)) × Room (aggregateCost (innerIn (now b) t)) w (now tables) (now sections) ⌝ }
+    ensures { λ r. ⌜ Kept (aggregateCost (innerIn (now (b .entry)) t)) (declareAggregate debug (typesFrom (now (s .entry)) (now (types .entry)) n) (innerIn (now (b .entry)) t) id) w (now (tables .entry)) (now (sections .entry)) r (now (tables .exit)) (now (sections .exit)) ⌝ }
+{
+    match t {
+        TypeInner::Scalar { kind: _, width: _ } => w,
+        TypeInner::Vector {
+            size: _,
+            kind: _,
+            width: _,
+        } => w,
+        TypeInner::Matrix {
+            columns: _,
+            rows: _,
+            width: _,
+        } => w,
+        TypeInner::Atomic { kind: _, width: _ } => w,
+        TypeInner::Pointer { base: _, space: _ } => w,
+        TypeInner::ValuePointer {
+            size: _,
+            kind: _,
+            width: _,
+            space: _,
+        } => w,
+        TypeInner::Array { base, size, stride } => aggregates::write_array(
+            tables,
+            sections,
+            w,
+            id,
+            base,
+            size,
+            stride,
+        ),
+        TypeInner::Struct { span: _, count } => structs::write_struct(
+            tables,
+            sections,
+            w,
+            s,
+            types,
+            n,
+            b,
+            debug,
+            id,
+            entries::members::first_member(b),
+            count,
+        ),
+        TypeInner::Image {
+            dim: _,
+            arrayed: _,
+            class: _,
+        } => w,
+        TypeInner::Sampler { comparison: _ } => w,
+        TypeInner::AccelerationStructure => w,
+        TypeInner::RayQuery => w,
+        TypeInner::BindingArray { base, size } => aggregates::write_elements(
+            tables,
+            sections,
+            w,
+            id,
+            base,
+            size,
+        ),
+    }
+}
+
+// The id of a type of body b: a shape is found, an aggregate takes its id first.
+fn declare_inner(
+    tables: &mut [u64],
+    sections: &mut [u32],
+    w: Writer,
+    s: &[u8],
+    types: &[u32],
+    n: usize,
+    b: &[u8],
+    debug: bool,
+    t: TypeInner,
+) -> Taken
+    requires { ⌜ (n ≤ length (now types)) × Room (innerCost (innerIn (now b) t)) w (now tables) (now sections) ⌝ }
+    ensures { λ r. ⌜ GotBy (innerCost (innerIn (now (b .entry)) t)) (innerDeclared debug (typesFrom (now (s .entry)) (now (types .entry)) n) (innerIn (now (b .entry)) t)) w (now (tables .entry)) (now (sections .entry)) r (now (tables .exit)) (now (sections .exit)) ⌝ }
+{
+    match locals::make_local(t) {
+        Made::Local(l) => finding::get_type_id(tables, sections, w, LookupType::Local(l)),
+        Made::Aggregate => {
+            let k = writer::take_id(w);
+            let id = k.id;
+            let v = write_aggregate(tables, sections, k.writer, s, types, n, b, debug, t, id);
+            Taken { id, writer: v }
+        }
+    }
+}
+
+// The type of the record at the front of `rest`, which passed its tests; the n types before it stand at their places. Its
+// own key comes behind all that it is made of, so that nothing in it can name it.
+pub fn write_type_declaration_arena(
+    tables: &mut [u64],
+    sections: &mut [u32],
+    w: Writer,
+    s: &[u8],
+    types: &[u32],
+    n: usize,
+    rest: &[u8],
+    debug: bool,
+) -> Writer
+    requires { ⌜ (n ≤ length (now types)) × ((n < 65536) × (Tested (recordAt (now rest)) × Room (recordCost (length (recordAt (now rest) .body) + 3)) w (now tables) (now sections))) ⌝ }
+    ensures { λ r. ⌜ Kept (recordCost (length (recordAt (now (rest .entry)) .body) + 3)) (declareType debug (typesFrom (now (s .entry)) (now (types .entry)) n) (typeOf (recordAt (now (rest .entry))))) w (now (tables .entry)) (now (sections .entry)) r (now (tables .exit)) (now (sections .exit)) ⌝ }
+{
+    let b = records::body_of(rest);
+    let t = entries::types::inner_of(records::tag_of(rest), b);
+    let g = declare_inner(tables, sections, w, s, types, n, b, debug, t);
+    let k = lookup::key(LookupType::Handle(n as u16));
+    let v = writer::enter_type(tables, g.writer, k, g.id);
+    names::name_type(sections, v, b, debug, g.id)
+}

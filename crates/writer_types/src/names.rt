@@ -1,0 +1,52 @@
+// Names of types and of members: each is written under the debug flag, where there is one.
+use entries::members::has_name;
+use entries::members::name_part;
+use writer::Writer;
+ghost use mathlib.Core.Path.{_≡_};
+ghost use mathlib.Core.Bool.{_&&_};
+ghost use Prim.Native.Nat.{_+_, _<_, _^_};
+ghost use Rattle.definition.specs.Bytes.{nameAt};
+ghost use Rattle.definition.specs.Instructions.{name, memberName};
+ghost use Rattle.definition.specs.Tests.{present};
+ghost use Rattle.definition.specs.Rules.{labelIf};
+ghost use Rattle.writer.specs.Cost.{naming};
+ghost use Rattle.writer.specs.Held.{RoomFor};
+ghost use Rattle.writer_types.specs.Members.{Added};
+ghost use Rattle.writer_types.specs.Costs.{nameLength};
+
+// Whether there is a name at p that is to be written.
+fn is_written(b: &[u8], debug: bool, p: usize) -> bool
+    ensures { λ r. ⌜ r ≡ (debug && present (nameAt (now (b .entry)) p)) ⌝ }
+{
+    debug && has_name(b, p)
+}
+
+// The name of a type, which stands at the front of its body.
+pub fn name_type(sections: &mut [u32], w: Writer, b: &[u8], debug: bool, id: u64) -> Writer
+    requires { ⌜ RoomFor (naming (nameLength (nameAt (now b) 0) + 3)) w (now sections) ⌝ }
+    ensures { λ r. ⌜ Added (naming (nameLength (nameAt (now (b .entry)) 0) + 3)) (labelIf debug (name id) (nameAt (now (b .entry)) 0)) w (now (sections .entry)) r (now (sections .exit)) ⌝ }
+{
+    if !is_written(b, debug, 0) {
+        return w;
+    }
+    writer::label(sections, w, id, name_part(b, 0))
+}
+
+// The name of member i, which stands at p.
+pub fn name_member(
+    sections: &mut [u32],
+    w: Writer,
+    b: &[u8],
+    debug: bool,
+    id: u64,
+    i: u32,
+    p: usize,
+) -> Writer
+    requires { ⌜ (p < 2 ^ 63) × RoomFor (naming (nameLength (nameAt (now b) p) + 4)) w (now sections) ⌝ }
+    ensures { λ r. ⌜ Added (naming (nameLength (nameAt (now (b .entry)) p) + 4)) (labelIf debug (memberName id i) (nameAt (now (b .entry)) p)) w (now (sections .entry)) r (now (sections .exit)) ⌝ }
+{
+    if !is_written(b, debug, p) {
+        return w;
+    }
+    writer::label_member(sections, w, id, i, name_part(b, p))
+}

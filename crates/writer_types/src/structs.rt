@@ -1,0 +1,171 @@
+// A struct in two passes: its members' decorations and names, and Block; then OpTypeStruct. A member is 16 bits of type, 32 of
+// offset, and a name; the next stands behind the name.
+use crate::aggregates::put_struct;
+use crate::names::name_member;
+use type_facts::Number;
+use type_facts::element_stride;
+use type_facts::is_dynamic;
+use writer::Writer;
+ghost use mathlib.Core.Path.{_≡_};
+ghost use Prim.Native.Nat.{_+_, _≤_, _<_};
+ghost use lib.ListN.{length};
+ghost use Rattle.definition.specs.Bytes.{nameAt};
+ghost use Rattle.definition.specs.Sheet.{membersAt};
+ghost use Rattle.definition.specs.Rules.{strideMember, decorateMember, anyDynamic, annotateIf, block, declareStruct};
+ghost use Rattle.records.specs.Places.{typesFrom};
+ghost use Rattle.type_facts.specs.Facets.{numberOf};
+ghost use Rattle.writer.specs.Cost.{annotating};
+ghost use Rattle.writer.specs.Held.{RoomFor, Room};
+ghost use Rattle.writer.specs.Steps.{Kept};
+ghost use Rattle.writer_types.specs.Members.{Added, memberAt, decorated};
+ghost use Rattle.writer_types.specs.Costs.{memberCost, membersCost, structCost};
+
+const OP_DECORATE: u32 = 71;
+
+const OP_MEMBER_DECORATE: u32 = 72;
+
+const DECORATION_BLOCK: u32 = 2;
+
+const DECORATION_COL_MAJOR: u32 = 5;
+
+const DECORATION_MATRIX_STRIDE: u32 = 7;
+
+const DECORATION_OFFSET: u32 = 35;
+
+// How the columns of member i lie, where it has columns.
+fn stride_member(sections: &mut [u32], w: Writer, id: u64, i: u32, x: Number) -> Writer
+    requires { ⌜ RoomFor (annotating 9) w (now sections) ⌝ }
+    ensures { λ r. ⌜ Added (annotating 9) (strideMember (numberOf x) id i) w (now (sections .entry)) r (now (sections .exit)) ⌝ }
+{
+    match x {
+        Number::Nothing => w,
+        Number::Of(n) => {
+            let t = writer::low_word(id);
+            let a = writer::annotate(
+                sections,
+                w,
+                OP_MEMBER_DECORATE,
+                &[t, i, DECORATION_COL_MAJOR],
+            );
+            writer::annotate(
+                sections,
+                a,
+                OP_MEMBER_DECORATE,
+                &[t, i, DECORATION_MATRIX_STRIDE, n],
+            )
+        }
+    }
+}
+
+// Member i, which stands at p: its Offset, its name, its columns.
+fn decorate_struct_member(
+    sections: &mut [u32],
+    w: Writer,
+    s: &[u8],
+    types: &[u32],
+    n: usize,
+    b: &[u8],
+    debug: bool,
+    id: u64,
+    i: u32,
+    p: usize,
+) -> Writer
+    requires { ⌜ (n ≤ length (now types)) × ((p < 4294967296) × RoomFor (memberCost (nameAt (now b) (p + 6))) w (now sections)) ⌝ }
+    ensures { λ r. ⌜ Added (memberCost (nameAt (now (b .entry)) (p + 6))) (decorateMember debug (typesFrom (now (s .entry)) (now (types .entry)) n) id i (memberAt (now (b .entry)) p)) w (now (sections .entry)) r (now (sections .exit)) ⌝ }
+{
+    let t = writer::low_word(id);
+    let a = writer::annotate(
+        sections,
+        w,
+        OP_MEMBER_DECORATE,
+        &[t, i, DECORATION_OFFSET, fields::u32_at(b, p + 2)],
+    );
+    let v = name_member(sections, a, b, debug, id, i, p + 6);
+    let x = element_stride(s, types, n, fields::u16_at(b, p) as usize);
+    stride_member(sections, v, id, i, x)
+}
+
+// The `count` members from `first` on, one after the other.
+fn decorate_struct_members(
+    sections: &mut [u32],
+    w: Writer,
+    s: &[u8],
+    types: &[u32],
+    n: usize,
+    b: &[u8],
+    debug: bool,
+    id: u64,
+    first: usize,
+    count: u8,
+) -> Writer
+    requires { ⌜ (n ≤ length (now types)) × ((first < 1000) × RoomFor (membersCost (membersAt (now b) first count)) w (now sections)) ⌝ }
+    ensures { λ r. ⌜ Added (membersCost (membersAt (now (b .entry)) first count)) (decorated debug (typesFrom (now (s .entry)) (now (types .entry)) n) id 0 (membersAt (now (b .entry)) first count)) w (now (sections .entry)) r (now (sections .exit)) ⌝ }
+{
+    let mut v = w;
+    let mut p = first;
+    let mut k = count;
+    let mut i: u32 = 0;
+    while 0 < k {
+        v = decorate_struct_member(sections, v, s, types, n, b, debug, id, i, p);
+        p = fields::name_end(b, p + 6);
+        i += 1;
+        k -= 1;
+    }
+    v
+}
+
+// Whether one of them is a dynamic array.
+fn has_runtime_array(s: &[u8], types: &[u32], n: usize, b: &[u8], first: usize, count: u8) -> bool
+    requires { ⌜ (n ≤ length (now types)) × (first < 1000) ⌝ }
+    ensures { λ r. ⌜ r ≡ anyDynamic (typesFrom (now (s .entry)) (now (types .entry)) n) (membersAt (now (b .entry)) first count) ⌝ }
+{
+    let mut p = first;
+    let mut k = count;
+    while 0 < k {
+        if is_dynamic(s, types, n, fields::u16_at(b, p) as usize) {
+            return true;
+        }
+        p = fields::name_end(b, p + 6);
+        k -= 1;
+    }
+    false
+}
+
+// Block goes on a struct with a dynamic array.
+fn block_if(sections: &mut [u32], w: Writer, dynamic: bool, id: u64) -> Writer
+    requires { ⌜ RoomFor (annotating 3) w (now sections) ⌝ }
+    ensures { λ r. ⌜ Added (annotating 3) (annotateIf dynamic (block id)) w (now (sections .entry)) r (now (sections .exit)) ⌝ }
+{
+    if !dynamic {
+        return w;
+    }
+    writer::annotate(
+        sections,
+        w,
+        OP_DECORATE,
+        &[writer::low_word(id), DECORATION_BLOCK],
+    )
+}
+
+// A struct of `count` members, the first of which stands at `first`.
+pub fn write_struct(
+    tables: &[u64],
+    sections: &mut [u32],
+    w: Writer,
+    s: &[u8],
+    types: &[u32],
+    n: usize,
+    b: &[u8],
+    debug: bool,
+    id: u64,
+    first: usize,
+    count: u8,
+) -> Writer
+    requires { ⌜ (n ≤ length (now types)) × ((first < 1000) × Room (structCost (membersAt (now b) first count)) w (now tables) (now sections)) ⌝ }
+    ensures { λ r. ⌜ Kept (structCost (membersAt (now (b .entry)) first count)) (declareStruct debug (typesFrom (now (s .entry)) (now (types .entry)) n) id (membersAt (now (b .entry)) first count)) w (now (tables .entry)) (now (sections .entry)) r (now (tables .entry)) (now (sections .exit)) ⌝ }
+{
+    let v = decorate_struct_members(sections, w, s, types, n, b, debug, id, first, count);
+    let d = has_runtime_array(s, types, n, b, first, count);
+    let u = block_if(sections, v, d, id);
+    put_struct(tables, sections, u, b, id, first, count)
+}
