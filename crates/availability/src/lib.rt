@@ -9,7 +9,9 @@ use lookup::capabilities_of;
 use records::Place;
 ghost use mathlib.Core.Path.{_≡_};
 ghost use mathlib.Core.List.{List, _++_};
-ghost use Prim.Native.Nat.{ℕ};
+ghost use Prim.Native.Nat.{ℕ, _+_, _≤_};
+ghost use lib.ListN.{length};
+ghost use Rattle.definition.specs.Bytes.{u32At};
 ghost use Rattle.definition.specs.Choice.{among, every};
 ghost use Rattle.definition.specs.Sheet.{availableFields};
 ghost use Rattle.definition.specs.Shapes.{shapeOf as definedShape};
@@ -17,6 +19,17 @@ ghost use Rattle.definition.specs.Unfit.{checkedCapabilities, isAvailable, shap
 ghost use Rattle.records.specs.Places.{availableFrom};
 ghost use Rattle.entries.specs.Types.{innerOf};
 ghost use Rattle.lookup.specs.Local.{shapeOf, asList};
+
+// The 32-bit number at a place of a body that has it whole. A sheet may ask hundreds of times for one of thousands of numbers, so
+// this reads without a test for the end.
+fn number_at(body: &[u8], at: usize) -> u32
+    requires { ⌜ at + 4 ≤ length (now body) ⌝ }
+    ensures { λ r. ⌜ r ≡ u32At (now (body .entry)) at ⌝ }
+{
+    let high = 256 * (body[at] as u32) + body[at + 1] as u32;
+    let low = 256 * (body[at + 2] as u32) + body[at + 3] as u32;
+    65536 * high + low
+}
 
 // Whether a capability is among the 32-bit numbers of a body. As many are read as the body has whole; bytes behind them, which
 // test 8 refuses, are not.
@@ -26,7 +39,7 @@ fn is_listed(body: &[u8], cap: u32) -> bool
     let mut at = 0;
     let mut left = body.len() / 4;
     while 0 < left {
-        if cap == fields::u32_at(body, at) {
+        if cap == number_at(body, at) {
             return true;
         }
         at += 4;

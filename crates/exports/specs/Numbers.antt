@@ -1,33 +1,28 @@
 -- Answers as numbers, for callers that know no enum of Rattle's.
-use Prim.Native.Nat.{ℕ}
+use Prim.Native.Nat.{ℕ, _+_, _*_, _%_}
+use mathlib.Core.Path.{_≡_}
+use mathlib.Core.Bool.{Bool, true, false}
 use mathlib.Core.List.{List}
-use lib.Dec.{ltb}
-use lib.ListN.{length}
 use Rattle.definition.specs.Choice.{pick}
-use Rattle.definition.specs.Tests.{Seen, Judged, fit, refused}
-use Rattle.definition.specs.Zeroable.{zeroable}
-use Rattle.records.specs.Places.{typesFrom}
-use Rattle.sheet.specs.declared.Reading.{Reading}
-use Rattle.sheet.specs.declared.Reading.the-variants.{Read, Refused}
-
-abbrev pub readingNumber : Reading → ℕ
-readingNumber (Read k) = 0
-readingNumber (Refused n) = n
+use Rattle.definition.specs.Operations.{Verdict, Answer, Written, Wrapping, Wraps, declare}
+use Rattle.definition.specs.WellDeclared.{Accepted}
 
 -- 0 is no refusal
-abbrev pub refusalOf : Judged Seen → ℕ
-refusalOf (refused n) = n
-refusalOf (fit n) = 0
+abbrev pub verdictNumber : Verdict → ℕ
+verdictNumber Verdict.Fit = 0
+verdictNumber (Verdict.Refused n) = n
 
--- of the first n types at their places, and of what a reading holds
-abbrev pub flagOf : List ℕ → List ℕ → ℕ → ℕ → ℕ
-flagOf s types n i = pick (ltb i n) (pick (zeroable (typesFrom s types n) i) 1 0) 0
+-- the bound in the high half, the word count in the low half
+abbrev pub answerNumber : Answer → ℕ
+answerNumber (Answer.Written count bound) = 4294967296 * bound + count % 4294967296
+answerNumber (Answer.Refused n) = n
 
-abbrev pub zeroableNumber : List ℕ → List ℕ → Reading → ℕ → ℕ
-zeroableNumber s types (Read k) i = flagOf s types (k .types) i
-zeroableNumber s types (Refused n) i = 0
+abbrev pub wrappingNumber : Wrapping → ℕ
+wrappingNumber (Wrapping.Wraps y) = pick y 257 256
+wrappingNumber (Wrapping.Refused n) = n
 
--- of the types of a sheet that was read
-abbrev pub zeroableIn : Judged Seen → ℕ → ℕ
-zeroableIn (refused n) i = 0
-zeroableIn (fit n) i = pick (ltb i (length (n .types))) (pick (zeroable (n .types) i) 1 0) 0
+-- Declare: the number, and the buffer after it, are the definition's; and demand 3 of the words that stand there
+pub record Exported (s before : List ℕ) (n : ℕ) (after : List ℕ) : Type 0 where
+  pub number : n ≡ answerNumber (declare s before .answer)
+  pub buffer : after ≡ declare s before .buffer
+  pub accepted : (count bound : ℕ) → declare s before .answer ≡ Written count bound → Accepted s before count bound

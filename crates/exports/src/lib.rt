@@ -1,69 +1,67 @@
-// For Rust and C to call, in tests and benchmarks: reading a sheet, and whether a type of it is zeroable.
-// Each function takes what it needs from its own stack, so that the caller lends the sheet alone.
-use sheet::Reading;
+// For C and Rust to call: document 01's three operations, their answers as numbers. `include/voulkrod.h` says what each
+// pointer must be; a slice passes as a pointer and a length.
+use declarations::Verdict;
+use declarations::Wrapping;
+use module_layout::Answer;
 ghost use mathlib.Core.Path.{_≡_};
-ghost use Prim.Native.Nat.{_≤_};
-ghost use lib.ListN.{length};
-ghost use Rattle.definition.specs.Tests.{readSheet};
-ghost use Rattle.exports.specs.Numbers.{readingNumber, refusalOf, flagOf, zeroableNumber, zeroableIn};
-ghost use Rattle.sheet.specs.Reading.{Limited};
+ghost use Rattle.definition.specs.Operations.{check, wrapped};
+ghost use Rattle.module_layout.specs.Finished.{answerOf};
+ghost use Rattle.declarations.specs.Promise.{verdictAs, wrappingAs};
+ghost use Rattle.exports.specs.Numbers.{verdictNumber, answerNumber, wrappingNumber, Exported};
 
-fn number_of(r: Reading) -> u32
-    ensures { λ n. ⌜ n ≡ readingNumber r ⌝ }
+fn number_of_verdict(v: Verdict) -> u32
+    ensures { λ n. ⌜ n ≡ verdictNumber (verdictAs v) ⌝ }
 {
-    match r {
-        Reading::Read(_) => 0,
-        Reading::Refused(n) => n as u32,
+    match v {
+        Verdict::Fit => 0,
+        Verdict::Refused(n) => n as u32,
     }
 }
 
-// Tests 1 to 12: the number of the refusal, or 0 where the sheet is read.
+fn number_of_answer(a: Answer) -> u64
+    ensures { λ n. ⌜ n ≡ answerNumber (answerOf a) ⌝ }
+{
+    match a {
+        Answer::Written(count, bound) => 4294967296 * (bound as u64) + (count as u64) % 4294967296,
+        Answer::Refused(n) => n as u64,
+    }
+}
+
+fn number_of_wrapping(w: Wrapping) -> u32
+    ensures { λ n. ⌜ n ≡ wrappingNumber (wrappingAs w) ⌝ }
+{
+    match w {
+        Wrapping::Wraps(yes) => {
+            if yes {
+                return 257;
+            }
+            256
+        }
+        Wrapping::Refused(n) => n as u32,
+    }
+}
+
+// Check: 0 for Fit, else the number of the refusal.
 #[no_mangle]
-pub extern "C" fn voulkrod_read_sheet(s: &[u8]) -> u32
-    ensures { λ n. ⌜ n ≡ refusalOf (readSheet (now (s .entry))) ⌝ }
+pub extern "C" fn voulkrod_check(sheet: &[u8]) -> u32
+    ensures { λ n. ⌜ n ≡ verdictNumber (check (now (sheet .entry))) ⌝ }
 {
-    let mut remaps = [0u32; 64];
-    let mut types = [0u32; 256];
-    let mut constants = [0u32; 256];
-    let mut globals = [0u32; 64];
-    number_of(sheet::read_sheet(s, &mut remaps, &mut types, &mut constants, &mut globals))
+    number_of_verdict(declarations::check(sheet))
 }
 
-// Of the first n types, whether type i is zeroable.
-fn flag_of(s: &[u8], types: &[u32], n: usize, i: usize) -> u32
-    requires { ⌜ n ≤ length (now types) ⌝ }
-    ensures { λ x. ⌜ x ≡ flagOf (now (s .entry)) (now (types .entry)) n i ⌝ }
-{
-    if n <= i {
-        return 0;
-    }
-    let mut memo = [0u8; 256];
-    if zeroable::is_zeroable(s, types, n, i, &mut memo) {
-        return 1;
-    }
-    0
-}
-
-// The same of what was read.
-fn zeroable_of(s: &[u8], types: &[u32], r: Reading, i: usize) -> u32
-    requires { ⌜ (256 ≤ length (now types)) × Limited r ⌝ }
-    ensures { λ x. ⌜ x ≡ zeroableNumber (now (s .entry)) (now (types .entry)) r i ⌝ }
-{
-    match r {
-        Reading::Refused(_) => 0,
-        Reading::Read(k) => flag_of(s, types, k.types, i),
-    }
-}
-
-// Whether type i is zeroable: 1 for yes, and 0 for no, for no such type and for a sheet that is not read.
+// Declare: the bound in the high half and the word count in the low half where the module is written, and a bound is
+// never 0; else the number of the refusal.
 #[no_mangle]
-pub extern "C" fn voulkrod_zeroable(s: &[u8], i: usize) -> u32
-    ensures { λ n. ⌜ n ≡ zeroableIn (readSheet (now (s .entry))) i ⌝ }
+pub extern "C" fn voulkrod_declare(sheet: &[u8], words: &mut [u32]) -> u64
+    ensures { λ n. ⌜ Exported (now (sheet .entry)) (now (words .entry)) n (now (words .exit)) ⌝ }
 {
-    let mut remaps = [0u32; 64];
-    let mut types = [0u32; 256];
-    let mut constants = [0u32; 256];
-    let mut globals = [0u32; 64];
-    let r = sheet::read_sheet(s, &mut remaps, &mut types, &mut constants, &mut globals);
-    zeroable_of(s, &types, r, i)
+    number_of_answer(declarations::declare(sheet, words))
+}
+
+// Wrapped: 256 for no, 257 for yes, else the number of the refusal.
+#[no_mangle]
+pub extern "C" fn voulkrod_wrapped(sheet: &[u8], index: usize) -> u32
+    ensures { λ n. ⌜ n ≡ wrappingNumber (wrapped (now (sheet .entry)) index) ⌝ }
+{
+    number_of_wrapping(declarations::wrapped(sheet, index))
 }

@@ -1,4 +1,2 @@
 pub mod Earlier
 pub mod Adding
-pub mod Turn
-pub mod Fitting

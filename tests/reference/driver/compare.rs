@@ -1,6 +1,7 @@
 //! The comparison: the reference's answers, worked out once for all cases, held
-//! against the second reading.
+//! against the second reading and, where it is linked, against the compiled code.
 
+use crate::compiled::{self, Compiled, Slip, SLIPS};
 use crate::faults::{Fault, FAULTS};
 use crate::generator::{self, Case, Expect, Random};
 use crate::lines::{self, Line};
@@ -10,6 +11,12 @@ use crate::second::{self, Refusal};
 use crate::sheet::{HEADER, MAX_BOUND};
 
 pub const SEED: u64 = 0x0907_0004_1943_0300;
+
+/// Of a run at scale, where no other is said.
+pub const SCALE_SEED: u64 = 0x0316_0040_9600_1719;
+
+/// How many sheets lie between two lines of progress.
+const STRIDE: usize = 50_000;
 
 /// What a sheet has to be answered with.
 enum Expected {
@@ -61,42 +68,53 @@ fn cases(count: usize) -> Vec<Case> {
     for number in generator::DAMAGES {
         cases.extend((0..20).map(|_| generator::damaged_as(&mut random, number)));
     }
-    for n in 0..count {
-        cases.push(match n % 5 {
-            0 => generator::damaged(&mut random),
-            1 => generator::changed(&mut random),
-            _ => {
-                let aim = generator::aim(&mut random);
-                let sheet = generator::valid(&mut random, aim).encode();
-                Case { sheet, expect: Expect::Domain }
-            }
-        });
-    }
+    cases.extend((0..count).map(|n| random_case(&mut random, n)));
     cases
 }
 
-/// The expected answers. A sheet that misses a capability is also asked cut off
-/// behind the refused record and before it, so that a program that answers a
-/// number alone is held to the record as well. None if the reference panics, which
-/// it must not in its domain.
+/// The next random case: three fifths are valid, one fifth has one thing wrong,
+/// one fifth has bytes changed.
+fn random_case(random: &mut Random, n: usize) -> Case {
+    match n % 5 {
+        0 => generator::damaged(random),
+        1 => generator::changed(random),
+        _ => {
+            let aim = generator::aim(random);
+            let sheet = generator::valid(random, aim).encode();
+            Case { sheet, expect: Expect::Domain }
+        }
+    }
+}
+
+/// The expected answers to all cases. None if the reference panics, which it must
+/// not in its domain.
 fn asked(cases: Vec<Case>) -> Option<Vec<Asked>> {
     let mut out = Vec::new();
-    for Case { sheet, expect } in cases {
-        let expected = match expect {
-            Expect::Refused(number) => Expected::Refused { number, record: None },
-            Expect::Domain => ask_reference(&sheet)?,
-            Expect::Unknown => match second::check(&sheet, None) {
-                Err(r) if r.number != 14 || lines::start_of(&sheet) >= MAX_BOUND => {
-                    Expected::Opinion(r.number)
-                }
-                _ => ask_reference(&sheet)?,
-            },
-        };
-        if let Expected::Refused { number: 14, record: Some(record) } = expected {
-            out.extend(cuts(&sheet, record)?);
-        }
-        out.push(Asked { sheet, expected });
+    for case in cases {
+        out.extend(asked_of(case)?);
     }
+    Some(out)
+}
+
+/// The expected answer to a case. A sheet that misses a capability is also asked
+/// cut off behind the refused record and before it, so that a program that answers
+/// a number alone is held to the record as well.
+fn asked_of(Case { sheet, expect }: Case) -> Option<Vec<Asked>> {
+    let expected = match expect {
+        Expect::Refused(number) => Expected::Refused { number, record: None },
+        Expect::Domain => ask_reference(&sheet)?,
+        Expect::Unknown => match second::check(&sheet, None) {
+            Err(r) if r.number != 14 || lines::start_of(&sheet) >= MAX_BOUND => {
+                Expected::Opinion(r.number)
+            }
+            _ => ask_reference(&sheet)?,
+        },
+    };
+    let mut out = match expected {
+        Expected::Refused { number: 14, record: Some(record) } => cuts(&sheet, record)?,
+        _ => Vec::new(),
+    };
+    out.push(Asked { sheet, expected });
     Some(out)
 }
 
@@ -154,43 +172,185 @@ fn own_refusals(asked: &Asked) -> Option<String> {
     (!good).then(|| "16 or 17 is not where it belongs".to_string())
 }
 
-/// The whole comparison; true if nothing differs and everything was reached.
-pub fn run(count: usize) -> bool {
-    let Some(all) = asked(cases(count)) else { return false };
-    let mut reached = Reached::default();
-    let mut lengths = Vec::new();
-    let (mut missing, mut differences) = (0, 0);
-    for one in &all {
+/// How the compiled code differs from what is expected, if it does. It is held to
+/// the second reading's opinion too.
+fn compiled_difference(asked: &Asked, compiled: &mut Compiled) -> Option<String> {
+    match &asked.expected {
+        Expected::Module { words, wrapped } => compiled.accepted(&asked.sheet, words, wrapped),
+        Expected::Refused { number, .. } | Expected::Opinion(number) => {
+            compiled.refused(&asked.sheet, *number)
+        }
+    }
+}
+
+/// What a comparison has seen so far.
+struct Tally {
+    compiled: Compiled,
+    reached: Reached,
+    sheets: usize,
+    modules: usize,
+    words: usize,
+    largest: usize,
+    missing: usize,
+    opinions: usize,
+    differences: usize,
+}
+
+impl Tally {
+    fn new() -> Self {
+        Tally {
+            compiled: Compiled::new(None),
+            reached: Reached::default(),
+            sheets: 0,
+            modules: 0,
+            words: 0,
+            largest: 0,
+            missing: 0,
+            opinions: 0,
+            differences: 0,
+        }
+    }
+
+    /// Holds the sides against each other on a sheet.
+    fn hold(&mut self, one: &Asked) {
+        self.sheets += 1;
         match &one.expected {
             Expected::Module { words, .. } => {
-                lengths.push(words.len());
-                reached.accepted(&one.sheet);
-                reached.refusal(16);
-                reached.refusal(17);
+                self.modules += 1;
+                self.words += words.len();
+                self.largest = self.largest.max(words.len());
+                self.reached.accepted(&one.sheet);
+                self.reached.refusal(16);
+                self.reached.refusal(17);
             }
             Expected::Refused { number, record } => {
-                missing += record.is_some() as usize;
-                reached.refusal(*number);
+                self.missing += record.is_some() as usize;
+                self.reached.refusal(*number);
             }
-            Expected::Opinion(_) => {}
+            Expected::Opinion(_) => self.opinions += 1,
         }
-        if let Some(what) = difference(one, None).or_else(|| own_refusals(one)) {
-            differences += 1;
-            if differences <= 5 {
-                println!("{what}\n  {}", lines::hex(&one.sheet));
+        let of_second = difference(one, None).or_else(|| own_refusals(one));
+        let mut of_compiled = None;
+        if compiled::LINKED {
+            of_compiled = compiled_difference(one, &mut self.compiled);
+        }
+        for (side, what) in [("the second reading", of_second), ("the compiled code", of_compiled)]
+        {
+            let Some(what) = what else { continue };
+            self.differences += 1;
+            if self.differences <= 5 {
+                println!("{side}: {what}\n  {}", lines::hex(&one.sheet));
             }
         }
     }
-    let complete = reached.report();
+
+    fn sides(&self) -> String {
+        match compiled::LINKED {
+            true => format!(
+                "three sides: the Rust, the second reading and the compiled code, called {} times",
+                self.compiled.calls()
+            ),
+            false => String::from("two sides: the Rust and the second reading"),
+        }
+    }
+
+    /// The result; true if nothing differs.
+    fn report(&self, seed: u64) -> bool {
+        println!(
+            "{} sheets from seed {seed:#018x}; held against the Rust: {} modules of {} words, the \
+             largest of {}, and {} missing capabilities; {} refused by the second reading's \
+             opinion alone; {} differences",
+            self.sheets,
+            self.modules,
+            self.words,
+            self.largest,
+            self.missing,
+            self.opinions,
+            self.differences,
+        );
+        println!("{}", self.sides());
+        self.differences == 0
+    }
+}
+
+/// The whole comparison; true if nothing differs and everything was reached.
+pub fn run(count: usize) -> bool {
+    let mut tally = Tally::new();
+    for case in cases(count) {
+        let Some(all) = asked_of(case) else { return false };
+        all.iter().for_each(|one| tally.hold(one));
+    }
+    let complete = tally.reached.report();
+    tally.report(SEED) && complete
+}
+
+/// Random sheets alone, as many as one likes, from a seed of their own.
+pub fn scale(count: usize, seed: u64) -> bool {
+    if seed == SEED {
+        println!("the seed is the gate's");
+        return false;
+    }
+    let began = std::time::Instant::now();
+    let mut random = Random(seed);
+    let mut tally = Tally::new();
+    for n in 0..count {
+        let Some(all) = asked_of(random_case(&mut random, n)) else { return false };
+        all.iter().for_each(|one| tally.hold(one));
+        if (n + 1) % STRIDE == 0 {
+            println!(
+                "{:9} of {count}, {} differences, {} s",
+                n + 1,
+                tally.differences,
+                began.elapsed().as_secs()
+            );
+        }
+    }
+    tally.reached.show();
+    let good = tally.report(seed);
+    println!("{:.0} s", began.elapsed().as_secs_f64());
+    good
+}
+
+/// Plants each slip in the compiled code's answers, on one sheet of a run after the
+/// other; true if every sheet that can show it does.
+pub fn slips(count: usize) -> bool {
+    if !compiled::LINKED {
+        println!("the compiled code is not linked");
+        return false;
+    }
+    let Some(all) = asked(cases(count)) else { return false };
+    let mut silent = 0;
+    for (number, &(slip, what)) in SLIPS.iter().enumerate() {
+        let mut planted = Compiled::new(Some(slip));
+        let can_show: Vec<&Asked> = all.iter().filter(|one| shows(one, slip)).collect();
+        let missed = |one: &&&Asked| compiled_difference(one, &mut planted).is_none();
+        let missed = can_show.iter().filter(missed).count();
+        let (number, of) = (number + 1, can_show.len());
+        match missed == 0 && of > 0 {
+            true => println!("{number:2} reported on each of {of} sheets: {what}"),
+            false => {
+                silent += 1;
+                println!("{number:2} NOT REPORTED on {missed} of {of} sheets: {what}");
+            }
+        }
+    }
     println!(
-        "{} sheets from seed {SEED:#018x}; held against the Rust: {} modules of {} words, the \
-         largest of {}, and {missing} missing capabilities; {differences} differences",
-        all.len(),
-        lengths.len(),
-        lengths.iter().sum::<usize>(),
-        lengths.iter().max().unwrap_or(&0),
+        "{} changes of the compiled code's answers planted, {} reported on every sheet",
+        SLIPS.len(),
+        SLIPS.len() - silent
     );
-    complete && differences == 0
+    silent == 0
+}
+
+/// Whether a slip changes an answer that is asked for about this sheet.
+fn shows(one: &Asked, slip: Slip) -> bool {
+    match &one.expected {
+        Expected::Module { wrapped, .. } => match slip {
+            Slip::Wrapped => !wrapped.is_empty(),
+            other => !other.of_refused_sheets(),
+        },
+        Expected::Refused { .. } | Expected::Opinion(_) => slip.of_refused_sheets(),
+    }
 }
 
 /// Plants each fault in turn and looks for the shortest sheet of a run that shows

@@ -1,6 +1,7 @@
 //! The driver of the comparison: see tests/README.md.
 
 mod compare;
+mod compiled;
 mod faults;
 mod generator;
 mod lines;
@@ -17,11 +18,18 @@ fn main() {
     let count = arguments.get(1).and_then(|n| n.parse().ok());
     let good = match (&arguments[..], count) {
         (["compare", _], Some(count)) => compare::run(count),
+        (["scale", _], Some(count)) => compare::scale(count, compare::SCALE_SEED),
+        (["scale", _, seed], Some(count)) => match number(seed) {
+            Some(seed) => compare::scale(count, seed),
+            None => complain("a seed is a number, decimal or 0x and hexadecimal"),
+        },
+        (["slips", _], Some(count)) => compare::slips(count),
         (["faults", _], Some(count)) => compare::faults(count),
         (["faults", files @ ..], None) if !files.is_empty() => faults_of_files(files),
         (["lines", _], Some(count)) => compare::print_lines(count),
         (["sample"], None) => compare::print_sample(),
         (["answer", side @ ("reference" | "second")], None) => answer(side),
+        (["answer", side @ "compiled"], None) if compiled::LINKED => answer(side),
         (["replay", files @ ..], None) if !files.is_empty() => replay(files),
         _ => {
             eprintln!("{USAGE}");
@@ -33,12 +41,24 @@ fn main() {
 
 const USAGE: &str = "usage:
   driver compare COUNT             families, edges and COUNT random sheets
+  driver scale COUNT [SEED]        COUNT random sheets from a seed of their own
+  driver slips COUNT               changes the compiled code's answers and says whether
+                                   such a run reports it
   driver faults COUNT              plants each fault and says whether such a run reports it
   driver faults FILE...            the same with the lines of files
   driver lines COUNT               the same sheets with the answers that are expected
   driver sample                    the lines that tests/vectors stores
-  driver answer reference|second   answers the sheets on standard input
-  driver replay FILE...            holds the answers in files against both sides";
+  driver answer reference|second|compiled
+                                   answers the sheets on standard input
+  driver replay FILE...            holds the answers in files against every side
+The compiled code is a side where the driver was built with it.";
+
+fn number(text: &str) -> Option<u64> {
+    match text.strip_prefix("0x") {
+        Some(digits) => u64::from_str_radix(digits, 16).ok(),
+        None => text.parse().ok(),
+    }
+}
 
 fn complain(problem: &str) -> bool {
     println!("{problem}");
@@ -80,6 +100,7 @@ fn answer(side: &str) -> bool {
     for line in asked {
         let answer = match side {
             "reference" => lines::reference_answer(&line.sheet, line.question),
+            "compiled" => compiled::answer(&line.sheet, line.question),
             _ => lines::second_answer(&line.sheet, line.question, None),
         };
         println!("{} | {answer}", line.asks());
@@ -87,8 +108,8 @@ fn answer(side: &str) -> bool {
     true
 }
 
-/// Holds the answers of files against the second reading, and against the
-/// reference wherever they say that a sheet lies in its domain.
+/// Holds the answers of files against the second reading and the compiled code, and
+/// against the reference wherever they say that a sheet lies in its domain.
 fn replay(files: &[&str]) -> bool {
     let mut good = true;
     for file in files {
@@ -112,6 +133,9 @@ fn replay_lines(file: &str, lines: &[lines::Line]) -> bool {
             }
         };
         hold("the second reading", lines::second_answer(&line.sheet, line.question, None));
+        if compiled::LINKED {
+            hold("the compiled code", compiled::answer(&line.sheet, line.question));
+        }
         if line.in_domain() {
             by_reference += 1;
             hold("the reference", lines::reference_answer(&line.sheet, line.question));

@@ -95,13 +95,18 @@ impl Reached {
         }
     }
 
-    /// Prints the counts; false where something was never reached.
-    pub fn report(&self) -> bool {
+    /// Prints the counts.
+    pub fn show(&self) {
         let show = |counts: &BTreeMap<u8, usize>| {
             counts.iter().map(|(k, n)| format!("{k}: {n}")).collect::<Vec<_>>().join(", ")
         };
         println!("tags in accepted sheets: {}", show(&self.tags));
         println!("refusals: {}", show(&self.refusals));
+    }
+
+    /// Prints the counts; false where something was never reached.
+    pub fn report(&self) -> bool {
+        self.show();
         let mut missing = Vec::new();
         for (tag, all) in COMBINATIONS {
             let reached = self.combinations.iter().filter(|(t, _)| *t == tag).count();

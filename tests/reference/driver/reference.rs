@@ -27,12 +27,75 @@ struct Reader {
     unread: Handle<naga::Type>,
 }
 
+/// What a record was entered as.
+enum Entered {
+    Type(Handle<naga::Type>),
+    Constant(Handle<Expression>),
+    Global(Handle<naga::GlobalVariable>),
+}
+
 /// Only for sheets of the comparison's domain: those that Check fits, and those
 /// with start at most 4,194,302 that it refuses with 14.
 pub fn run(bytes: &[u8]) -> Answer {
-    let start = u32::from_be_bytes(bytes[1..5].try_into().unwrap());
+    let mut options = options(bytes);
+    let mut reader = Reader::new(constants_of(bytes));
+    // The options are known once the first type, constant or global comes.
+    let mut writer = None;
+    let mut rest = &bytes[HEADER..];
+    let mut index = 0;
+    while let Some((record, after)) = next_record(rest) {
+        if let Some(entered) = reader.enter(&mut options, record) {
+            let w = writer.get_or_insert_with(|| empty_writer(&options, bytes));
+            match reader.write(w, &entered) {
+                Ok(_) => {}
+                Err(spv::Error::MissingCapabilities(..)) => return Answer::Missing(index),
+                Err(other) => panic!("the reference answered {other:?}"),
+            }
+        }
+        rest = after;
+        index += 1;
+    }
+    let writer = writer.unwrap_or_else(|| empty_writer(&options, bytes));
+    let wrapped = |&global| spv::Writer::reference_wrapped(&reader.module, global);
+    Answer::Module(writer.reference_words(), reader.globals.iter().map(wrapped).collect())
+}
+
+/// A sheet that Check fits, entered in full, for the benchmark to write on its own.
+#[cfg(bench)]
+pub struct Ready<'a> {
+    bytes: &'a [u8],
+    options: spv::Options<'a>,
+    reader: Reader,
+    entered: Vec<Entered>,
+}
+
+#[cfg(bench)]
+impl<'a> Ready<'a> {
+    pub fn new(bytes: &'a [u8]) -> Self {
+        let mut options = options(bytes);
+        let mut reader = Reader::new(constants_of(bytes));
+        let mut entered = Vec::new();
+        let mut rest = &bytes[HEADER..];
+        while let Some((record, after)) = next_record(rest) {
+            entered.extend(reader.enter(&mut options, record));
+            rest = after;
+        }
+        Ready { bytes, options, reader, entered }
+    }
+
+    pub fn write(&self) -> Vec<u32> {
+        let mut writer = empty_writer(&self.options, self.bytes);
+        for entered in &self.entered {
+            self.reader.write(&mut writer, entered).expect("a sheet that fits");
+        }
+        writer.reference_words()
+    }
+}
+
+/// The options that the sheet's header gives.
+fn options<'a>(bytes: &[u8]) -> spv::Options<'a> {
     let flags = bytes[5];
-    let mut options = spv::Options {
+    spv::Options {
         lang_version: (1, 3),
         flags: match flags & DEBUG {
             0 => spv::WriterFlags::empty(),
@@ -43,49 +106,24 @@ pub fn run(bytes: &[u8]) -> Answer {
             _ => spv::ZeroInitializeWorkgroupMemoryMode::Native,
         },
         ..spv::Options::default()
-    };
-    let scalar = TypeInner::Scalar { kind: naga::ScalarKind::Bool, width: 1 };
-    let mut reader = Reader {
-        module: naga::Module::default(),
-        info: ModuleInfo::empty(),
-        types: Vec::new(),
-        constants: Vec::new(),
-        globals: Vec::new(),
-        unread: naga::UniqueArena::default()
-            .insert(naga::Type { name: None, inner: scalar }, Span::default()),
-    };
-    // The options are known once the first type, constant or global comes.
-    let mut writer = None;
-    let mut rest = &bytes[HEADER..];
-    let mut index = 0;
-    while let Some((record, after)) = next_record(rest) {
-        let result = match record {
-            Record::Available(list) => {
-                let known = list.into_iter().filter_map(spv::Capability::from_number);
-                options.capabilities = Some(known.collect());
-                Ok(0)
-            }
-            Record::Remap { group, binding, size } => {
-                let info = spv::BindingInfo { binding_array_size: Some(size) };
-                options.binding_map.insert(naga::ResourceBinding { group, binding }, info);
-                Ok(0)
-            }
-            record => {
-                let w = writer.get_or_insert_with(|| spv::Writer::reference_empty(&options, start));
-                reader.write(w, record)
-            }
-        };
-        match result {
-            Ok(_) => {}
-            Err(spv::Error::MissingCapabilities(..)) => return Answer::Missing(index),
-            Err(other) => panic!("the reference answered {other:?}"),
-        }
-        rest = after;
-        index += 1;
     }
-    let writer = writer.unwrap_or_else(|| spv::Writer::reference_empty(&options, start));
-    let wrapped = |&global| spv::Writer::reference_wrapped(&reader.module, global);
-    Answer::Module(writer.reference_words(), reader.globals.iter().map(wrapped).collect())
+}
+
+fn empty_writer(options: &spv::Options, bytes: &[u8]) -> spv::Writer {
+    let start = u32::from_be_bytes(bytes[1..5].try_into().expect("4 bytes"));
+    spv::Writer::reference_empty(options, start)
+}
+
+/// How many records have a constant's tag. Behind a record that misses a
+/// capability a sheet may hold anything, which is counted as it comes.
+fn constants_of(bytes: &[u8]) -> usize {
+    let mut rest = &bytes[HEADER..];
+    let mut count = 0;
+    while let [high, low, tag, ..] = *rest {
+        count += (rank(tag) == Some(3)) as usize;
+        rest = rest.get(2 + u16::from_be_bytes([high, low]) as usize..).unwrap_or(&[]);
+    }
+    count
 }
 
 fn name(name: Name) -> Option<String> {
@@ -197,6 +235,20 @@ const FORMATS: [naga::StorageFormat; 40] = {
 };
 
 impl Reader {
+    fn new(constants: usize) -> Self {
+        let scalar = TypeInner::Scalar { kind: naga::ScalarKind::Bool, width: 1 };
+        let unread = naga::UniqueArena::default()
+            .insert(naga::Type { name: None, inner: scalar }, Span::default());
+        Reader {
+            module: naga::Module::default(),
+            info: ModuleInfo::of_constants(constants, || TypeResolution::Handle(unread)),
+            types: Vec::new(),
+            constants: Vec::new(),
+            globals: Vec::new(),
+            unread,
+        }
+    }
+
     fn ty(&self, index: u16) -> Handle<naga::Type> {
         self.types[index as usize]
     }
@@ -205,22 +257,33 @@ impl Reader {
         self.constants[index as usize]
     }
 
-    fn write(&mut self, writer: &mut spv::Writer, record: Record) -> Result<u32, spv::Error> {
-        match record {
+    /// Enters a record into naga's IR, or into the options.
+    fn enter(&mut self, options: &mut spv::Options, record: Record) -> Option<Entered> {
+        Some(match record {
+            Record::Available(list) => {
+                let known = list.into_iter().filter_map(spv::Capability::from_number);
+                options.capabilities = Some(known.collect());
+                return None;
+            }
+            Record::Remap { group, binding, size } => {
+                let info = spv::BindingInfo { binding_array_size: Some(size) };
+                options.binding_map.insert(naga::ResourceBinding { group, binding }, info);
+                return None;
+            }
             Record::Type(t) => {
                 let ty = naga::Type { name: name(t.name), inner: self.inner(t.inner) };
                 let handle = self.module.types.insert(ty, Span::default());
                 assert_eq!(handle.index(), self.types.len(), "12 refuses a repeated type");
                 self.types.push(handle);
-                writer.reference_type(&self.module, handle)
+                Entered::Type(handle)
             }
             Record::Constant(c) => {
                 let resolution = self.resolution(&c);
-                self.info.push_constant(resolution);
+                self.info.set_constant(self.constants.len(), resolution);
                 let expression = self.expression(c);
                 let handle = self.module.const_expressions.append(expression, Span::default());
                 self.constants.push(handle);
-                writer.reference_constant(&self.module, &self.info, handle)
+                Entered::Constant(handle)
             }
             Record::Global(g) => {
                 let global = naga::GlobalVariable {
@@ -233,9 +296,19 @@ impl Reader {
                 };
                 let handle = self.module.global_variables.append(global, Span::default());
                 self.globals.push(handle);
-                writer.reference_global(&self.module, handle)
+                Entered::Global(handle)
             }
-            Record::Available(_) | Record::Remap { .. } => unreachable!("options"),
+        })
+    }
+
+    /// The function that document 01 names for a record.
+    fn write(&self, writer: &mut spv::Writer, entered: &Entered) -> Result<u32, spv::Error> {
+        match *entered {
+            Entered::Type(handle) => writer.reference_type(&self.module, handle),
+            Entered::Constant(handle) => {
+                writer.reference_constant(&self.module, &self.info, handle)
+            }
+            Entered::Global(handle) => writer.reference_global(&self.module, handle),
         }
     }
 

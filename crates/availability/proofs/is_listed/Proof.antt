@@ -1,5 +1,6 @@
 -- The numbers that are left answer as all do; each way out, and each turn, is a law of `Laws`.
 use mathlib.Core.Path.{_∙_, sym, refl}
+use native.Mathlib.Omega.{arith}
 use borrow.Author.Needs.{needs}
 use Rattle.availability.proofs.Laws.{Going, starts, found, turn, ended}
 use Rattle.availability.proofs.is_listed.Statement.{statement}
@@ -14,13 +15,13 @@ abbrev μ-loop : tie.MeasureT-loop
 loop-holds : tie.Need-loop-holds Inv-loop μ-loop
 loop-holds c = starts _ _ _ refl
 
-u32-at-requires : tie.Need-u32-at-requires Inv-loop μ-loop
-u32-at-requires c κs = search needs
+number-at-requires : tie.Need-number-at-requires Inv-loop μ-loop
+number-at-requires c κs = omega (arith, c .before .loop .inv .inside, c .loop-test .taken)
 
 returns : tie.Need-returns Inv-loop μ-loop
 returns c =
     let l = c .before .before .before .loop in
-    found _ _ (l .inv) (c .before .before .loop-test .taken) (c .if1 .taken ∙ c .before .u32-at .ensures)
+    found _ _ (l .inv) (c .before .before .loop-test .taken) (c .if1 .taken ∙ c .before .number-at .ensures)
 
 add-at : tie.Need-add-at Inv-loop μ-loop
 add-at c = search needs
@@ -34,7 +35,7 @@ loop-less c = search needs
 loop-again : tie.Need-loop-again Inv-loop μ-loop
 loop-again c =
     let l = c .before .before .before .loop in
-    turn _ _ (l .inv) (c .before .before .loop-test .taken) (λ e. c .if1 .left (e ∙ sym (c .before .u32-at .ensures)))
+    turn _ _ (l .inv) (c .before .before .loop-test .taken) (λ e. c .if1 .left (e ∙ sym (c .before .number-at .ensures)))
 
 returns-2 : tie.Need-returns-2 Inv-loop μ-loop
 returns-2 c = ended _ _ (c .before .loop .inv) (c .loop-test .left)
@@ -46,7 +47,7 @@ is-listed-spec =
     Inv-loop
     μ-loop
     loop-holds
-    u32-at-requires
+    number-at-requires
     returns
     add-at
     sub-left

@@ -8,20 +8,18 @@ use crate::proc::{GlobalCtx, ResolveContext, TypeResolution};
 use crate::{Expression, GlobalVariable, Handle};
 
 impl ModuleInfo {
-    pub fn empty() -> Self {
+    /// For so many constants, each of a type to be set.
+    pub fn of_constants(count: usize, unset: impl Fn() -> TypeResolution) -> Self {
         ModuleInfo {
             type_flags: Vec::new(),
             functions: Vec::new(),
             entry_points: Vec::new(),
-            const_expression_types: Box::new([]),
+            const_expression_types: (0..count).map(|_| unset()).collect(),
         }
     }
 
-    /// The next constant's type.
-    pub fn push_constant(&mut self, resolution: TypeResolution) {
-        let mut types = std::mem::take(&mut self.const_expression_types).into_vec();
-        types.push(resolution);
-        self.const_expression_types = types.into();
+    pub fn set_constant(&mut self, index: usize, resolution: TypeResolution) {
+        self.const_expression_types[index] = resolution;
     }
 
     pub fn get_entry_point(&self, _: usize) -> &FunctionInfo {

@@ -1,0 +1,24 @@
+-- The scratch is enough for the class.
+use lib.ListN.{length-replicate}
+use mathlib.Core.Logic.{inr}
+use native.Mathlib.Omega.{arith}
+use borrow.Author.Needs.{needs}
+use Rattle.declarations.proofs.wrapped_small.Statement.{statement}
+use Rattle.declarations.proofs.wrapped_small.Tie as tie
+
+slice-aggregate-wrapped-in : tie.Need-slice-aggregate-wrapped-in
+slice-aggregate-wrapped-in c = search needs
+
+slice-aggregate-wrapped-in-2 : tie.Need-slice-aggregate-wrapped-in-2
+slice-aggregate-wrapped-in-2 c = search needs
+
+wrapped-in-requires : tie.Need-wrapped-in-requires
+wrapped-in-requires c κs = record { for-bytes = λ h. omega arith; for-records = inr (omega arith); tables = simp length-replicate (omega arith); sections = simp length-replicate (omega arith); few = omega arith }
+
+returns : tie.Need-returns
+returns c = search needs
+
+pub wrapped-small-spec : {M : Type 1} → statement M
+wrapped-small-spec =
+    tie.close
+    (tie.spec slice-aggregate-wrapped-in slice-aggregate-wrapped-in-2 wrapped-in-requires returns)

@@ -1,0 +1,302 @@
+// Document 01's three operations, each with its promise (specs/Promise.antt). None asks anything of its caller: sheets and
+// buffers of any length, indexes of any size.
+use module_layout::Answer;
+use sheet_writer::Outcome;
+ghost use mathlib.Core.Path.{_≡_};
+ghost use Prim.Native.Nat.{_≤_};
+ghost use lib.ListN.{length};
+ghost use Rattle.declarations.specs.Promise.{DeclarePromise, CheckPromise, WrappedPromise};
+ghost use Rattle.declarations.specs.Stages.{Lent, Roomed, Ended, Standing, WrappedAs, verdictFrom};
+
+// How large a sheet there is scratch for, by class, in bytes, and as many records as so many bytes can hold, or as a sheet may have.
+const TINY: usize = 128;
+
+const TINY_RECORDS: usize = 43;
+
+const SMALL: usize = 2048;
+
+const SMALL_RECORDS: usize = 576;
+
+const LARGE: usize = 16384;
+
+const LARGE_RECORDS: usize = 576;
+
+// The last bound that the Specification allows.
+const BOUND_MOST: u64 = 4194303;
+
+// What Check answers.
+pub enum Verdict {
+    Fit,
+    Refused(u8),
+}
+
+// What Wrapped answers.
+pub enum Wrapping {
+    Wraps(bool),
+    Refused(u8),
+}
+
+// ---- Declare
+
+// Tests 15 and 16, and the module, once the records are declared. A refusal writes nothing.
+fn finish(sections: &[u32], o: Outcome, words: &mut [u32]) -> Answer
+    requires { ⌜ Roomed (now sections) o ⌝ }
+    ensures { λ a. ⌜ Ended (now (sections .entry)) o (now (words .entry)) a (now (words .exit)) ⌝ }
+{
+    match o {
+        Outcome::Refused(n) => Answer::Refused(n),
+        Outcome::Fit(_, w) => module_layout::write_module(words, sections, w),
+    }
+}
+
+// The whole, over lent tables and sections.
+fn declare_in(
+    sheet: &[u8],
+    tables: &mut [u64],
+    sections: &mut [u32],
+    nrecords: usize,
+    nbytes: usize,
+    words: &mut [u32],
+) -> Answer
+    requires { ⌜ Lent (now sheet) nrecords nbytes (now tables) (now sections) ⌝ }
+    ensures { λ r. ⌜ DeclarePromise (now (sheet .entry)) (now (words .entry)) r (now (words .exit)) ⌝ }
+{
+    let mut memo = [0u8; 256];
+    let mut remaps = [0u32; 64];
+    let mut types = [0u32; 256];
+    let mut constants = [0u32; 256];
+    let mut globals = [0u32; 64];
+    let o = sheet_writer::write_sheet(
+        tables,
+        sections,
+        &mut memo,
+        &mut remaps,
+        &mut types,
+        &mut constants,
+        &mut globals,
+        sheet,
+        nrecords,
+        nbytes,
+    );
+    finish(sections, o, words)
+}
+
+fn declare_tiny(sheet: &[u8], words: &mut [u32]) -> Answer
+    requires { ⌜ length (now sheet) ≤ 128 ⌝ }
+    ensures { λ r. ⌜ DeclarePromise (now (sheet .entry)) (now (words .entry)) r (now (words .exit)) ⌝ }
+{
+    let mut tables = [0u64; 1160];
+    let mut sections = [0u32; 896];
+    declare_in(sheet, &mut tables, &mut sections, TINY_RECORDS, TINY, words)
+}
+
+fn declare_small(sheet: &[u8], words: &mut [u32]) -> Answer
+    requires { ⌜ length (now sheet) ≤ 2048 ⌝ }
+    ensures { λ r. ⌜ DeclarePromise (now (sheet .entry)) (now (words .entry)) r (now (words .exit)) ⌝ }
+{
+    let mut tables = [0u64; 15872];
+    let mut sections = [0u32; 14336];
+    declare_in(
+        sheet,
+        &mut tables,
+        &mut sections,
+        SMALL_RECORDS,
+        SMALL,
+        words,
+    )
+}
+
+fn declare_large(sheet: &[u8], words: &mut [u32]) -> Answer
+    ensures { λ r. ⌜ DeclarePromise (now (sheet .entry)) (now (words .entry)) r (now (words .exit)) ⌝ }
+{
+    let mut tables = [0u64; 30208];
+    let mut sections = [0u32; 114688];
+    declare_in(
+        sheet,
+        &mut tables,
+        &mut sections,
+        LARGE_RECORDS,
+        LARGE,
+        words,
+    )
+}
+
+// By the sheet's class. It calls itself, so that the compiler lays the scratch of no class out in its frame.
+fn declare_class(class: u8, sheet: &[u8], words: &mut [u32]) -> Answer
+    ensures { λ r. ⌜ DeclarePromise (now (sheet .entry)) (now (words .entry)) r (now (words .exit)) ⌝ }
+{
+    if class == 0 {
+        if sheet.len() <= TINY {
+            return declare_tiny(sheet, words);
+        }
+        return declare_class(1, sheet, words);
+    }
+    if class == 1 {
+        if sheet.len() <= SMALL {
+            return declare_small(sheet, words);
+        }
+        return declare_class(2, sheet, words);
+    }
+    declare_large(sheet, words)
+}
+
+// Declares a sheet into a word buffer.
+pub fn declare(sheet: &[u8], words: &mut [u32]) -> Answer
+    ensures { λ r. ⌜ DeclarePromise (now (sheet .entry)) (now (words .entry)) r (now (words .exit)) ⌝ }
+{
+    declare_class(0, sheet, words)
+}
+
+// ---- Check
+
+// What a Declare into too short a buffer says of the sheet: 16 comes after all of Check.
+fn verdict_of(a: Answer) -> Verdict
+    ensures { λ r. ⌜ r ≡ verdictFrom a ⌝ }
+{
+    match a {
+        Answer::Written(_, _) => Verdict::Fit,
+        Answer::Refused(n) => {
+            if n == 16 {
+                return Verdict::Fit;
+            }
+            Verdict::Refused(n)
+        }
+    }
+}
+
+// Whether a sheet is fit. A module has five words at least, so that for a fit sheet a buffer of one word is too short.
+pub fn check(sheet: &[u8]) -> Verdict
+    ensures { λ r. ⌜ CheckPromise (now (sheet .entry)) r ⌝ }
+{
+    let mut one = [0u32; 1];
+    let a = declare(sheet, &mut one);
+    verdict_of(a)
+}
+
+// ---- Wrapped
+
+// Test 15, 17, and whether the global is wrapped, once the records are read: global i of the first n stands at its place.
+fn wrapping_of(sheet: &[u8], types: &[u32], globals: &[u32], o: Outcome, index: usize) -> Wrapping
+    requires { ⌜ Standing (now sheet) (now types) (now globals) o ⌝ }
+    ensures { λ r. ⌜ WrappedAs (now (sheet .entry)) (now (types .entry)) (now (globals .entry)) o index r ⌝ }
+{
+    match o {
+        Outcome::Refused(n) => Wrapping::Refused(n),
+        Outcome::Fit(k, w) => {
+            let g = w.idgen;
+            if BOUND_MOST <= g.last {
+                return Wrapping::Refused(15);
+            }
+            if k.globals <= index {
+                return Wrapping::Refused(17);
+            }
+            let v = entries::globals::global_at(sheet, globals, index);
+            let space = v.space;
+            Wrapping::Wraps(type_facts::global_needs_wrapper(
+                sheet,
+                types,
+                k.types,
+                v.ty as usize,
+                space,
+            ))
+        }
+    }
+}
+
+// The whole, over lent tables and sections.
+fn wrapped_in(
+    sheet: &[u8],
+    tables: &mut [u64],
+    sections: &mut [u32],
+    nrecords: usize,
+    nbytes: usize,
+    index: usize,
+) -> Wrapping
+    requires { ⌜ Lent (now sheet) nrecords nbytes (now tables) (now sections) ⌝ }
+    ensures { λ r. ⌜ WrappedPromise (now (sheet .entry)) index r ⌝ }
+{
+    let mut memo = [0u8; 256];
+    let mut remaps = [0u32; 64];
+    let mut types = [0u32; 256];
+    let mut constants = [0u32; 256];
+    let mut globals = [0u32; 64];
+    let o = sheet_writer::write_sheet(
+        tables,
+        sections,
+        &mut memo,
+        &mut remaps,
+        &mut types,
+        &mut constants,
+        &mut globals,
+        sheet,
+        nrecords,
+        nbytes,
+    );
+    wrapping_of(sheet, &types, &globals, o, index)
+}
+
+fn wrapped_tiny(sheet: &[u8], index: usize) -> Wrapping
+    requires { ⌜ length (now sheet) ≤ 128 ⌝ }
+    ensures { λ r. ⌜ WrappedPromise (now (sheet .entry)) index r ⌝ }
+{
+    let mut tables = [0u64; 1160];
+    let mut sections = [0u32; 896];
+    wrapped_in(sheet, &mut tables, &mut sections, TINY_RECORDS, TINY, index)
+}
+
+fn wrapped_small(sheet: &[u8], index: usize) -> Wrapping
+    requires { ⌜ length (now sheet) ≤ 2048 ⌝ }
+    ensures { λ r. ⌜ WrappedPromise (now (sheet .entry)) index r ⌝ }
+{
+    let mut tables = [0u64; 15872];
+    let mut sections = [0u32; 14336];
+    wrapped_in(
+        sheet,
+        &mut tables,
+        &mut sections,
+        SMALL_RECORDS,
+        SMALL,
+        index,
+    )
+}
+
+fn wrapped_large(sheet: &[u8], index: usize) -> Wrapping
+    ensures { λ r. ⌜ WrappedPromise (now (sheet .entry)) index r ⌝ }
+{
+    let mut tables = [0u64; 30208];
+    let mut sections = [0u32; 114688];
+    wrapped_in(
+        sheet,
+        &mut tables,
+        &mut sections,
+        LARGE_RECORDS,
+        LARGE,
+        index,
+    )
+}
+
+// By the sheet's class, as Declare.
+fn wrapped_class(class: u8, sheet: &[u8], index: usize) -> Wrapping
+    ensures { λ r. ⌜ WrappedPromise (now (sheet .entry)) index r ⌝ }
+{
+    if class == 0 {
+        if sheet.len() <= TINY {
+            return wrapped_tiny(sheet, index);
+        }
+        return wrapped_class(1, sheet, index);
+    }
+    if class == 1 {
+        if sheet.len() <= SMALL {
+            return wrapped_small(sheet, index);
+        }
+        return wrapped_class(2, sheet, index);
+    }
+    wrapped_large(sheet, index)
+}
+
+// Whether a global of the sheet is wrapped in a struct.
+pub fn wrapped(sheet: &[u8], index: usize) -> Wrapping
+    ensures { λ r. ⌜ WrappedPromise (now (sheet .entry)) index r ⌝ }
+{
+    wrapped_class(0, sheet, index)
+}

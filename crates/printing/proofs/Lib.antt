@@ -1,0 +1,4 @@
+pub mod Runs
+pub mod Lines
+pub mod Examples
+pub mod Long
