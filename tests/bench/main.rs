@@ -12,20 +12,13 @@ mod reference;
 #[allow(dead_code)]
 mod sheet;
 mod sheets;
+#[path = "../../include/voulkrod.rs"]
+#[allow(dead_code)]
+mod voulkrod;
 
 use std::hint::black_box;
 use std::time::Instant;
-
-#[link(name = "exports", kind = "static")]
-extern "C" {
-    // crates/exports: a slice passes as a pointer and a length.
-    fn voulkrod_declare(sheet: *const u8, length: usize, words: *mut u32, count: usize) -> u64;
-}
-
-fn declare(sheet: &[u8], words: &mut [u32]) -> u64 {
-    // SAFETY: both are slices; the callee reads the first and has the second alone.
-    unsafe { voulkrod_declare(sheet.as_ptr(), sheet.len(), words.as_mut_ptr(), words.len()) }
-}
+use voulkrod::declare;
 
 /// Required: the compiled code's time over the Rust's, on the first three sheets.
 const RATIO: f64 = 1.0;

@@ -268,19 +268,7 @@ pub fn worst() -> Vec<(&'static str, Vec<u8>)> {
     };
     add("256 matrices", fill(vec![], 256, matrix));
     let by_value = |n: usize| {
-        let (kind, width) = [
-            (SINT, 1),
-            (SINT, 2),
-            (SINT, 4),
-            (SINT, 8),
-            (UINT, 1),
-            (UINT, 2),
-            (UINT, 4),
-            (UINT, 8),
-            (FLOAT, 4),
-            (FLOAT, 8),
-            (BOOL, 1),
-        ][n % 11];
+        let (kind, width) = SCALARS[n % SCALARS.len()];
         let size = [0, 2, 3, 4][n / 11 % 4];
         let space = [FUNCTION, PRIVATE, WORKGROUP, UNIFORM, STORAGE, PUSH_CONSTANT][n / 44];
         let access = if space == STORAGE { 3 } else { 0 };

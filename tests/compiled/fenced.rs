@@ -1,18 +1,8 @@
-//! Memory between pages that cannot be touched, and the three operations on it.
+//! Memory between pages that cannot be touched.
 
 use std::ffi::{c_int, c_void};
 
 extern "C" {
-    // include/voulkrod.h
-    fn voulkrod_check(sheet: *const u8, length: usize) -> u32;
-    fn voulkrod_declare(
-        sheet: *const u8,
-        length: usize,
-        words: *mut u32,
-        words_length: usize,
-    ) -> u64;
-    fn voulkrod_wrapped(sheet: *const u8, length: usize, index: usize) -> u32;
-
     fn mmap(
         at: *mut c_void,
         bytes: usize,
@@ -22,21 +12,6 @@ extern "C" {
         from: i64,
     ) -> *mut c_void;
     fn mprotect(at: *mut c_void, bytes: usize, may: c_int) -> c_int;
-}
-
-pub fn check(sheet: &[u8]) -> u32 {
-    // SAFETY: pointer and length are a slice's, which the callee only reads.
-    unsafe { voulkrod_check(sheet.as_ptr(), sheet.len()) }
-}
-
-pub fn declare(sheet: &[u8], words: &mut [u32]) -> u64 {
-    // SAFETY: as above, and the words are lent to the callee alone.
-    unsafe { voulkrod_declare(sheet.as_ptr(), sheet.len(), words.as_mut_ptr(), words.len()) }
-}
-
-pub fn wrapped(sheet: &[u8], index: usize) -> u32 {
-    // SAFETY: as for check.
-    unsafe { voulkrod_wrapped(sheet.as_ptr(), sheet.len(), index) }
 }
 
 const PAGE: usize = 4096;

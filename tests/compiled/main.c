@@ -209,11 +209,11 @@ static void measure(int count, char **paths) {
     static struct sheet sheet;
     char *pages = mmap(NULL, PAGE + STACK, PROT_READ | PROT_WRITE, MAP_PRIVATE | MAP_ANONYMOUS, -1, 0);
     if (pages == MAP_FAILED || mprotect(pages, PAGE, PROT_NONE)) give_up("stack", "no memory for it");
-    /* by class of sheet: up to 128 bytes, up to 1,024, and longer */
+    /* by class of sheet: up to 128 bytes, up to 2,048, and longer */
     size_t most[3][3] = {{0}}, files[3] = {0};
     for (int i = 0; i < count; i++) {
         read_sheet(paths[i], &sheet);
-        int class = sheet.length <= 128 ? 0 : sheet.length <= 1024 ? 1 : 2;
+        int class = sheet.length <= 128 ? 0 : sheet.length <= 2048 ? 1 : 2;
         files[class]++;
         for (int operation = 0; operation < 3; operation++) {
             struct call call = {&sheet, operation, NULL};
@@ -226,7 +226,7 @@ static void measure(int count, char **paths) {
             }
         }
     }
-    static const char *const classes[] = {"up to 128 bytes", "up to 1,024 bytes", "longer"};
+    static const char *const classes[] = {"up to 128 bytes", "up to 2,048 bytes", "longer"};
     printf("| sheets | of them | Check, bytes of stack | Declare | Wrapped |\n|---|---|---|---|---|\n");
     for (int class = 0; class < 3; class++)
         printf("| %s | %zu | %zu | %zu | %zu |\n", classes[class], files[class], most[class][0], most[class][1],

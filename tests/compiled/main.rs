@@ -9,6 +9,8 @@
 
 mod fenced;
 mod lines;
+#[path = "../../include/voulkrod.rs"]
+mod voulkrod;
 mod worst;
 
 use fenced::Fenced;
@@ -135,7 +137,7 @@ fn globals_in(sheet: &[u8]) -> usize {
 impl Replay<'_> {
     fn check(&mut self, due: u32) -> Compared {
         self.tally.calls += 1;
-        let mut seen = fenced::check(self.sheet);
+        let mut seen = voulkrod::check(self.sheet);
         if self.fault.is("check") {
             seen ^= 1;
         }
@@ -144,7 +146,7 @@ impl Replay<'_> {
 
     fn wrapped(&mut self, index: usize, due: u32) -> Compared {
         self.tally.calls += 1;
-        let mut seen = fenced::wrapped(self.sheet, index);
+        let mut seen = voulkrod::wrapped(self.sheet, index);
         if self.fault.is("wrapped") {
             seen ^= 1;
         }
@@ -159,7 +161,7 @@ impl Replay<'_> {
         for (index, word) in painted.iter_mut().enumerate() {
             *word = pattern(index, self.salt);
         }
-        let number = fenced::declare(self.sheet, &mut painted[MARGIN..]);
+        let number = voulkrod::declare(self.sheet, &mut painted[MARGIN..]);
         let keeps = keeps(number).min(room);
         if number >> 32 != 0 && keeps < room && self.fault.is("past") {
             painted[MARGIN + keeps] ^= 1;
@@ -358,11 +360,11 @@ fn shortest<T>(mut call: impl FnMut() -> T) -> f64 {
 
 /// Check, Declare and Wrapped of the first global, in seconds, and the module's words.
 fn times_of(sheet: &[u8], words: &mut [u32]) -> ([f64; 3], usize) {
-    let number = fenced::declare(sheet, words);
+    let number = voulkrod::declare(sheet, words);
     let times = [
-        shortest(|| fenced::check(black_box(sheet))),
-        shortest(|| fenced::declare(black_box(sheet), words)),
-        shortest(|| fenced::wrapped(black_box(sheet), 0)),
+        shortest(|| voulkrod::check(black_box(sheet))),
+        shortest(|| voulkrod::declare(black_box(sheet), words)),
+        shortest(|| voulkrod::wrapped(black_box(sheet), 0)),
     ];
     (times, if number >> 32 == 0 { 0 } else { number as u32 as usize })
 }

@@ -11,35 +11,8 @@ use crate::lines::{self, Question};
 pub const LINKED: bool = cfg!(compiled);
 
 #[cfg(compiled)]
-mod calls {
-    #[link(name = "exports", kind = "static")]
-    extern "C" {
-        // A slice passes as a pointer and a length.
-        fn voulkrod_check(sheet: *const u8, length: usize) -> u32;
-        fn voulkrod_declare(
-            sheet: *const u8,
-            length: usize,
-            words: *mut u32,
-            words_length: usize,
-        ) -> u64;
-        fn voulkrod_wrapped(sheet: *const u8, length: usize, index: usize) -> u32;
-    }
-
-    pub fn check(sheet: &[u8]) -> u32 {
-        // SAFETY: the pointer and the length are those of a slice, which the callee only reads.
-        unsafe { voulkrod_check(sheet.as_ptr(), sheet.len()) }
-    }
-
-    pub fn declare(sheet: &[u8], words: &mut [u32]) -> u64 {
-        // SAFETY: as above; the words are lent to the callee alone.
-        unsafe { voulkrod_declare(sheet.as_ptr(), sheet.len(), words.as_mut_ptr(), words.len()) }
-    }
-
-    pub fn wrapped(sheet: &[u8], index: usize) -> u32 {
-        // SAFETY: as for check.
-        unsafe { voulkrod_wrapped(sheet.as_ptr(), sheet.len(), index) }
-    }
-}
+#[path = "../../../include/voulkrod.rs"]
+mod calls;
 
 #[cfg(not(compiled))]
 mod calls {

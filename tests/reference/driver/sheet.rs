@@ -24,6 +24,21 @@ pub const UINT: u8 = 1;
 pub const FLOAT: u8 = 2;
 pub const BOOL: u8 = 3;
 
+/// Kinds with the widths that they may have.
+pub const SCALARS: [(u8, u8); 11] = [
+    (SINT, 1),
+    (SINT, 2),
+    (SINT, 4),
+    (SINT, 8),
+    (UINT, 1),
+    (UINT, 2),
+    (UINT, 4),
+    (UINT, 8),
+    (FLOAT, 4),
+    (FLOAT, 8),
+    (BOOL, 1),
+];
+
 /// Spaces.
 pub const FUNCTION: u8 = 0;
 pub const PRIVATE: u8 = 1;

@@ -2,20 +2,6 @@
 
 use super::*;
 
-pub(super) const SCALARS: [(u8, u8); 11] = [
-    (SINT, 1),
-    (SINT, 2),
-    (SINT, 4),
-    (SINT, 8),
-    (UINT, 1),
-    (UINT, 2),
-    (UINT, 4),
-    (UINT, 8),
-    (FLOAT, 4),
-    (FLOAT, 8),
-    (BOOL, 1),
-];
-
 /// Every space with every access that it may have.
 pub(super) const SPACES: [(u8, u8); 10] = [
     (FUNCTION, 0),
