@@ -24,8 +24,10 @@ use voulkrod::declare;
 const RATIO: f64 = 1.0;
 /// Aimed at, not required.
 const AIM: f64 = 0.5;
-/// Required: microseconds on any sheet.
+/// Required: microseconds on any sheet, on a machine where the Rust takes `USUAL` on the
+/// full one. On a slower machine the limit grows with the Rust's own time.
 const MOST: f64 = 2_000.0;
+const USUAL: f64 = 250.0;
 /// Of each side of a sheet, in turn.
 const ROUNDS: usize = 60;
 /// What a round of one side takes, in seconds.
@@ -142,10 +144,12 @@ fn main() {
         ("full: 256 types, 256 constants, 64 globals, names", sheets::mix(256, 256, 64, length)),
     ];
     let mut ratios = Vec::new();
+    let mut most = MOST; // by the last of the three, the full one
     for (what, sheet) in &three {
         let m = measure(what, sheet, words);
         row(sheet, count(sheet, words), &m, what);
         ratios.push((m.ratio(), *what));
+        most = MOST * (m.rust / USUAL).max(1.0);
     }
 
     println!("\ngrowth: one mix");
@@ -190,8 +194,8 @@ fn main() {
             format!("ratio {ratio:.2}, at most {RATIO:.1} ({AIM:.1} aimed at: {aim}): {what}");
         good &= verdict(*ratio <= RATIO, &line);
     }
-    let line = format!("the longest {:.0} us, under {MOST:.0}: {}", slowest.0, slowest.1);
-    good &= verdict(slowest.0 < MOST, &line);
+    let line = format!("the longest {:.0} us, under {most:.0}: {}", slowest.0, slowest.1);
+    good &= verdict(slowest.0 < most, &line);
     println!("the largest ratio of all, not required: {:.2}, {}", worst_ratio.0, worst_ratio.1);
     std::process::exit(if good { 0 } else { 1 });
 }

@@ -304,6 +304,23 @@ pub fn worst() -> Vec<(&'static str, Vec<u8>)> {
         "256 storage images, each needs the last two of 3,482 capabilities",
         fill(available(3_480), 256, two),
     );
+    // Both at once: a long list, and names that differ in front only.
+    let front = |n: usize, length: usize, inner: Inner| {
+        let mut name = vec![b'n'; length];
+        (name[0], name[1]) = (b'a' + (n / 16) as u8, b'a' + (n % 16) as u8);
+        Record::Type(Type { name: Some(name), inner })
+    };
+    let one_shape = Inner::Image { dim: D1, arrayed: 0, class: STORED, first: 1, second: 3 };
+    let alike = |n: usize| front(n, 39, one_shape.clone());
+    add(
+        "256 images alike but for the first bytes of names, 1,002 capabilities",
+        fill(available(1_000), 256, alike),
+    );
+    let six = |n: usize| front(n, 10, structure(0, &[0; 6]));
+    add(
+        "255 structs of 6 members alike but for the first bytes of names",
+        fill(vec![unnamed(scalar(FLOAT))], 255, six),
+    );
     let pointer = |n: usize| unnamed(Inner::Pointer { base: n as u16, space: PRIVATE, access: 0 });
     add("255 pointers, each to the one before", fill(vec![unnamed(scalar(FLOAT))], 255, pointer));
     let nested = |n: usize| unnamed(Inner::Array { base: n as u16, size: 2, stride: 4 });

@@ -25,8 +25,10 @@ const ROOM: usize = 65_536;
 const MARGIN: usize = 64;
 /// What a buffer holds before a call; no word is the same in both.
 const PATTERNS: [u32; 2] = [0x5eed_5eed, !0x5eed_5eed];
-/// The longest that a call may take, in seconds.
+/// The longest that a call may take, in seconds, on a machine where `usual_work` takes USUAL;
+/// on a slower one in proportion.
 const LONGEST: f64 = 0.002;
+const USUAL: f64 = 0.000_022;
 
 const FIT: u32 = 0;
 const NOT_WRAPPED: u32 = 256;
@@ -358,6 +360,17 @@ fn shortest<T>(mut call: impl FnMut() -> T) -> f64 {
     best
 }
 
+/// Work that has nothing to do with sheets, a step for each byte, each waiting for the one before.
+fn usual_work(bytes: &[u8]) -> u32 {
+    bytes.iter().fold(0x811c_9dc5, |sum: u32, b| (sum ^ u32::from(*b)).wrapping_mul(0x0100_0193))
+}
+
+/// The longest that a call may take here, in seconds.
+fn longest() -> f64 {
+    let bytes = [7; 16_384];
+    LONGEST * (shortest(|| usual_work(black_box(&bytes))) / USUAL).max(1.0)
+}
+
 /// Check, Declare and Wrapped of the first global, in seconds, and the module's words.
 fn times_of(sheet: &[u8], words: &mut [u32]) -> ([f64; 3], usize) {
     let number = voulkrod::declare(sheet, words);
@@ -372,18 +385,20 @@ fn times_of(sheet: &[u8], words: &mut [u32]) -> ([f64; 3], usize) {
 fn times(lines: &[Line], folder: &str) -> bool {
     let mut words = vec![0; ROOM];
     let mut good = true;
+    let longest = longest();
     let mut print = |what: &str, bytes: usize, (times, count): ([f64; 3], usize)| {
         let [check, declare, wrapped] = times.map(|t| format!("{:.0}", t * 1e6));
         println!("| {what} | {bytes} | {count} | {check} | {declare} | {wrapped} |");
-        let slow = times.iter().any(|t| *t > LONGEST);
+        let slow = times.iter().any(|t| *t > longest);
         if slow {
-            println!("this takes more than {} ms", LONGEST * 1e3);
+            println!("this takes more than {:.1} ms", longest * 1e3);
         }
         if count == 0 {
             println!("this is refused");
         }
         good &= !slow && count > 0;
     };
+    println!("at most {:.1} ms a call", longest * 1e3);
     println!("| sheet | bytes | words | Check, us | Declare, us | Wrapped, us |");
     println!("|---|---|---|---|---|---|");
     for (index, (what, sheet)) in worst::sheets().into_iter().enumerate() {
