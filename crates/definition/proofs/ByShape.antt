@@ -15,7 +15,7 @@ use Rattle.definition.specs.Instructions.{Instruction}
 use Rattle.definition.specs.Reader.{uses, idsAmong, layoutOf, formed}
 use Rattle.definition.specs.Shapes.{Kind, Shape, Key, inner, sized, rank, rankOf, opcodeOf, operandsOf, typeOf}
 use Rattle.definition.specs.Shapes.{sint, uint, float, bool, one, many, scalar, vector, matrix, pointer, valuePointer, image, sampler, accelerationStructure, rayQuery, bindingArray, bindingPointer, entry, shape}
-use Rattle.definition.specs.WellDeclared.{plainType, Twins, declaring, needs, intNeeds}
+use Rattle.definition.specs.WellDeclared.{plainType, EqualTypes, declaring, needs, intNeeds}
 use Rattle.definition.specs.Finding.{capabilitiesOf, kindCapabilities}
 use Rattle.definition.proofs.Truth.{both-true, true-is, alike-is}
 use Rattle.definition.proofs.Sizes.{W, Sized, SmallShape, SmallKey, under-more}
@@ -213,9 +213,9 @@ module _ (types : List (Key × ℕ)) (injective : (l m : Shape) (i : ℕ) → Li
       let q : x ≡ y = cc in
       ap (λ (n : Shape). some (shape n)) (injective l m y (rw q at f) g)
 
-  -- shapes whose instructions are twins are one
-  pub twins-same : (l m : Shape) (i j x y x′ y′ : ℕ) → FitsIn types (inner l) x → FitsIn types (inner m) x′ → Twins (typeOf l i x y) (typeOf m j x′ y′) → l ≡ m
-  twins-same l m i j x y x′ y′ f g t =
+  -- shapes whose type declarations are equal are one
+  pub equal-types-same : (l m : Shape) (i j x y x′ y′ : ℕ) → FitsIn types (inner l) x → FitsIn types (inner m) x′ → EqualTypes (typeOf l i x y) (typeOf m j x′ y′) → l ≡ m
+  equal-types-same l m i j x y x′ y′ f g t =
       let tm : T (plainType (opcodeOf m)) = rw (← t .opcode) (t .plain) in
       let ids : innerIds (inner l) x ≡ innerIds (inner m) x′ = sym (plain-used l x y (t .plain)) ∙ (ap (λ (o : ℕ). idsAmong (layoutOf o .operands) (operandsOf l x y)) (t .opcode) ∙ (ap (λ (xs : List ℕ). idsAmong (layoutOf (opcodeOf m) .operands) xs) (t .operands) ∙ plain-used m x′ y′ tm)) in
       let same : inner l ≡ inner m = same-inner (inner l) (inner m) x x′ ids f g (facts l .plain-inner (t .plain)) (facts m .plain-inner tm) in

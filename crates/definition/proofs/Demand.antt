@@ -20,7 +20,7 @@ use Rattle.definition.specs.Tests.{Judged, refused, fit}
 use Rattle.definition.specs.Shapes.{Shape, Key, sameKey, shapeOf, inner, rankOf, opcodeOf, typeOf, entry, shape}
 use Rattle.definition.specs.State.{State, occurrences, lookup, idOf, boundOf, capabilityInstructions, instructions, moduleWords}
 use Rattle.definition.specs.Operations.{Progress, judged, Written, unchanged, declaredOf, declare}
-use Rattle.definition.specs.WellDeclared.{times, once, declaring, Above, NoTwins, plainType, targets, targetOf, marks, needs, listedIn, listedBy, needed, WellDeclared, Declares, alone, over, HasShape, EntriesDeclared, Demand3, writtenOf, Accepted, Demand3OfDeclare}
+use Rattle.definition.specs.WellDeclared.{times, once, declaring, Above, NoEqualTypes, plainType, targets, targetOf, marks, needs, listedIn, listedBy, needed, WellDeclared, Declares, alone, over, HasShape, EntriesDeclared, Demand3, writtenOf, Accepted, Demand3OfDeclare}
 use Rattle.definition.proofs.Lists.{times-append, targets-append, upTo-in, upTo-out, lookup-in, lookup-out}
 use Rattle.definition.proofs.Sizes.{W}
 use Rattle.definition.proofs.ByShape.{taken, FitsIn, FitsLength, PlainIn, Deeper, facts}
@@ -68,9 +68,9 @@ quiet-above b (x ∷ xs) ds q h = (
   quiet-above (b ++ x ∷ []) xs ds (tail-quiet x xs q) (above-weaker b (b ++ x ∷ []) ds (λ i. omega (arith, times-append i b (x ∷ []))) h),
 )
 
-quiet-twins : (xs ds : List Instruction) → AllQuiet xs → NoTwins ds → NoTwins (xs ++ ds)
-quiet-twins [] ds q h = h
-quiet-twins (x ∷ xs) ds q h = (λ j m t. head-quiet x xs q .other (t .plain), quiet-twins xs ds (tail-quiet x xs q) h)
+quiet-equal-types : (xs ds : List Instruction) → AllQuiet xs → NoEqualTypes ds → NoEqualTypes (xs ++ ds)
+quiet-equal-types [] ds q h = h
+quiet-equal-types (x ∷ xs) ds q h = (λ j m t. head-quiet x xs q .other (t .plain), quiet-equal-types xs ds (tail-quiet x xs q) h)
 
 -- the capabilities
 capabilities-quiet : (cs : List ℕ) → AllQuiet (capabilityInstructions cs)
@@ -251,7 +251,7 @@ module _ (start : ℕ) (s : State) (h : Sound start [] s) where
     above = rw as-front (quiet-above [] front (s .declarations) front-quiet (h .above));
     on-declared = λ t m. let q = all-on t (List·Memᴰ·append-cases (targets (s .names)) (rw all-targets at m)) in all-times t ∙ each-once t (q .0) (q .1);
     capabilities = λ c. rw (all-listed, all-needed c) (h .caps c);
-    no-twins = rw as-front (quiet-twins front (s .declarations) front-quiet (h .apart));
+    no-equal-types = rw as-front (quiet-equal-types front (s .declarations) front-quiet (h .apart));
   }
 
   all-declarations : {d : Instruction} → List·Memᴰ d (s .declarations) → List·Memᴰ d (instructions s)

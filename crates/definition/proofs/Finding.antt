@@ -18,10 +18,10 @@ use Rattle.definition.specs.Shapes.{Shape, Key, sameKey, inner, sized, r
 use Rattle.definition.specs.Shapes.{scalar, vector, matrix, pointer, valuePointer, image, sampler, accelerationStructure, rayQuery, bindingArray, bindingPointer, entry, shape, one, many}
 use Rattle.definition.specs.State.{Constants, State, Got, lookup, same, takeId, enter, withConstants, declare, declareWith}
 use Rattle.definition.specs.Finding.{capabilitiesOf, literalKind, literalOp, enterLiteral, orNewValue, literalWith, innerGot, lengthGot, newKey, orNewKey, findAt, find, literal}
-use Rattle.definition.specs.WellDeclared.{times, once, Twins, plainType, needs}
+use Rattle.definition.specs.WellDeclared.{times, once, EqualTypes, plainType, needs}
 use Rattle.definition.proofs.Lists.{last-in, snoc-cases, same-itself, times-snoc, times-in, lookup-in, lookup-out}
 use Rattle.definition.proofs.Sizes.{W, Under, Sized, SmallKind, SmallShape}
-use Rattle.definition.proofs.ByShape.{taken, FitsIn, FitsLength, Formed, innerIds, lengthIds, Inside, SmallLength, uses-type, Deeper, twins-same, facts}
+use Rattle.definition.proofs.ByShape.{taken, FitsIn, FitsLength, Formed, innerIds, lengthIds, Inside, SmallLength, uses-type, Deeper, equal-types-same, facts}
 use Rattle.definition.proofs.Sound.{Sound, Settled, Held, declared-snoc, settled-declared, take-sound, begin-sound, declare-sound, other-sound, constants-sound, not-declared, taken-range}
 
 -- what is entered and declared stays so
@@ -269,11 +269,11 @@ module _ (start : ℕ) where
       (λ t. record { l = l; id = id; x = x; y = y; spells = refl; entered = m; fits = f })
       settles h
     where
-      alone : (j : Instruction) → List·Memᴰ j (s .declarations) → Twins j (typeOf l id x y) → ⊥
+      alone : (j : Instruction) → List·Memᴰ j (s .declarations) → EqualTypes j (typeOf l id x y) → ⊥
       alone j n t =
           let p = h .spelt j n (t .plain) in
-          let t′ : Twins (typeOf (p .l) (p .id) (p .x) (p .y)) (typeOf l id x y) = rw (p .spells) at t in
-          let e : p .l ≡ l = twins-same (s .types) (h .injective) (p .l) l (p .id) id (p .x) (p .y) x y (p .fits) f t′ in
+          let t′ : EqualTypes (typeOf (p .l) (p .id) (p .x) (p .y)) (typeOf l id x y) = rw (p .spells) at t in
+          let e : p .l ≡ l = equal-types-same (s .types) (h .injective) (p .l) l (p .id) id (p .x) (p .y) x y (p .fits) f t′ in
           let q : p .id ≡ id = h .unique (shape l) (p .id) id (rw e at (p .entered)) m in
           let o : once (j .result) id ≡ same id (p .id) = ap (λ (d : Instruction). once (d .result) id) (p .spells) in
           let o′ : same id (p .id) ≡ 1 = rw q (same-itself id) in

@@ -17,6 +17,6 @@ pub mod Reading
 pub mod Capabilities
 pub mod Same
 pub mod Demand
-pub mod Teeth
+pub mod WrongModules
 pub mod Words
 pub mod Answers

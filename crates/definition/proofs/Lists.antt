@@ -13,7 +13,7 @@ use borrow.Author.Tests.{eq-eqb, ne-eqb, le-leb, lt-leb}
 use Rattle.definition.specs.Choice.{pick}
 use Rattle.definition.specs.Instructions.{Instruction}
 use Rattle.definition.specs.State.{lookup, same, occurrences, listed, listOne}
-use Rattle.definition.specs.WellDeclared.{times, once, Above, UsesDeclared, NoTwins, Twins, needs, needed, targets, targetOf}
+use Rattle.definition.specs.WellDeclared.{times, once, Above, UsesDeclared, NoEqualTypes, EqualTypes, needs, needed, targets, targetOf}
 
 -- one more at the end
 pub last-in {ℓ} : {A : Type ℓ} (xs : List A) (a : A) → List·Memᴰ a (xs ++ a ∷ [])
@@ -87,11 +87,11 @@ pub above-snoc : (before xs : List Instruction) (x : Instruction) → Above befo
 above-snoc before [] x h u = (rw append-nil at u, tt)
 above-snoc before (y ∷ xs) x h u = (h .0, above-snoc (before ++ y ∷ []) xs x (h .1) (rw append-assoc u))
 
-pub twins-snoc : (xs : List Instruction) (x : Instruction) → NoTwins xs → ((j : Instruction) → List·Memᴰ j xs → Twins j x → ⊥) → NoTwins (xs ++ x ∷ [])
-twins-snoc [] x h n = (λ j m t. List·Memᴰ·not-nil m, tt)
-twins-snoc (y ∷ xs) x h n = (λ j m t. go j t (snoc-cases xs m), twins-snoc xs x (h .1) (λ j m. n j (List·Memᴰ·tail m)))
+pub equal-types-snoc : (xs : List Instruction) (x : Instruction) → NoEqualTypes xs → ((j : Instruction) → List·Memᴰ j xs → EqualTypes j x → ⊥) → NoEqualTypes (xs ++ x ∷ [])
+equal-types-snoc [] x h n = (λ j m t. List·Memᴰ·not-nil m, tt)
+equal-types-snoc (y ∷ xs) x h n = (λ j m t. go j t (snoc-cases xs m), equal-types-snoc xs x (h .1) (λ j m. n j (List·Memᴰ·tail m)))
   where
-    go : (j : Instruction) → Twins y j → List·Memᴰ j xs ⊎ (j ≡ x) → ⊥
+    go : (j : Instruction) → EqualTypes y j → List·Memᴰ j xs ⊎ (j ≡ x) → ⊥
     go j t (inl m) = h .0 j m t
     go j t (inr e) = n y (List·Memᴰ·head refl) (rw e at t)
 

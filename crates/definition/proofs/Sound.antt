@@ -14,8 +14,8 @@ use Rattle.definition.specs.Instructions.{Instruction}
 use Rattle.definition.specs.Reader.{uses}
 use Rattle.definition.specs.Shapes.{Kind, Shape, Key, inner, sized, rankOf, typeOf, entry, shape}
 use Rattle.definition.specs.State.{Valued, Constants, State, same, occurrences, takeId, enter, withConstants, annotate, label, declare, declareWith, empty}
-use Rattle.definition.specs.WellDeclared.{times, once, Above, NoTwins, Twins, needs, needed, plainType, targets, marks}
-use Rattle.definition.proofs.Lists.{targets-append, snoc-cases, same-itself, upTo, upTo-in, upTo-out, upTo-suc, times-snoc, times-in, above-snoc, twins-snoc, listed-count, needed-snoc, table-bounded, table-unique}
+use Rattle.definition.specs.WellDeclared.{times, once, Above, NoEqualTypes, EqualTypes, needs, needed, plainType, targets, marks}
+use Rattle.definition.proofs.Lists.{targets-append, snoc-cases, same-itself, upTo, upTo-in, upTo-out, upTo-suc, times-snoc, times-in, above-snoc, equal-types-snoc, listed-count, needed-snoc, table-bounded, table-unique}
 use Rattle.definition.proofs.Sizes.{Sized, sized-up, SmallKind}
 use Rattle.definition.proofs.ByShape.{FitsIn, FitsLength, Formed, facts}
 
@@ -108,7 +108,7 @@ declared-snoc {A} xs ds a i h old b j m = go (snoc-cases xs m)
 pub record Sound (start : ℕ) (P : List (ℕ × ℕ)) (s : State) : Type 0 where
   pub ids : (i : ℕ) → times i (s .declarations) + pending i P + upTo start i ≡ upTo (s .last) i
   pub above : Above [] (s .declarations)
-  pub apart : NoTwins (s .declarations)
+  pub apart : NoEqualTypes (s .declarations)
   pub caps : (c : ℕ) → occurrences c (s .capabilities) ≡ min 1 (needed c (s .declarations))
   pub names : Notes start (s .last) (s .names)
   pub annotations : Notes start (s .last) (s .annotations)
@@ -277,14 +277,14 @@ module _ (start : ℕ) where
   -- an instruction declares the id that was taken last of those pending
   pub declare-sound : (r id : ℕ) (P : List (ℕ × ℕ)) (s : State) (cs : List ℕ) (d : Instruction) → d .result ≡ some id → Formed d → Sized (s .last) d → needs d ≡ cs
       → ((u : ℕ) → List·Memᴰ u (uses d) → 1 ≤ times u (s .declarations))
-      → ((j : Instruction) → List·Memᴰ j (s .declarations) → Twins j d → ⊥)
+      → ((j : Instruction) → List·Memᴰ j (s .declarations) → EqualTypes j d → ⊥)
       → (T (plainType (d .opcode)) → Spelt (s .types) d)
       → ((l : Shape) → List·Memᴰ (shape l, id) (s .types) → rankOf l ≡ r → Settled (s .types) (s .declarations ++ d ∷ []) l id)
       → Sound start ((r, id) ∷ P) s → Sound start P (declareWith cs d s)
   declare-sound r id P s cs d e fd fits nc used alone spells settles h = record {
     ids = λ i. omega (arith, h .ids i, times-snoc i (s .declarations) d, ap (λ (o : Option ℕ). once o i) e);
     above = above-snoc [] (s .declarations) d (h .above) (λ t. used);
-    apart = twins-snoc (s .declarations) d (h .apart) alone;
+    apart = equal-types-snoc (s .declarations) d (h .apart) alone;
     caps = λ c. let q = h .caps c in let p = listed-count c cs (s .capabilities) (omega arith) in omega (arith, needed-snoc c (s .declarations) d, ap (λ (xs : List ℕ). occurrences c xs) nc);
     names = h .names;
     annotations = h .annotations;

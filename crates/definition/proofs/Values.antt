@@ -21,7 +21,7 @@ use Rattle.definition.specs.Tests.{Seen, innerTypes, expressionTypes, ex
 use Rattle.definition.specs.Shapes.{Kind, Key, storageClass, rank, bool, vector, pointer, bindingPointer, entry, shape}
 use Rattle.definition.specs.State.{Valued, Composite, composite, sameComposite, State, lookup, takeId, annotate, declare}
 use Rattle.definition.specs.Finding.{find, enterComposite, enterNull, compositeOf, orNewNull, nullOf}
-use Rattle.definition.specs.Rules.{innerAt, labelIf, annotateIf, block, noValue, valueAt, idsOf, kindOfScalar, GotValue, constantOf, enterValue, declareConstant, accessOf, decorateAccess, decorateBinding, isBound, needsWrapper, bindingBase, remapOf, Way, direct, wrapped, remapped, remappedWay, wayOf, wrap, decorateMember, pointerOf, blockBase, getsNull, GotInit, initFor, declareGlobal}
+use Rattle.definition.specs.Rules.{innerAt, labelIf, annotateIf, block, noValue, valueAt, idsOf, kindOfScalar, GotValue, constantOf, enterValue, declareConstant, accessOf, decorateAccess, decorateBinding, isBound, needsWrapper, bindingBase, remapOf, PointerForm, direct, wrapped, remapped, remappedForm, pointerFormOf, wrap, decorateMember, pointerOf, blockBase, getsNull, GotInit, initFor, declareGlobal}
 use Rattle.definition.specs.WellDeclared.{times, needs}
 use Rattle.definition.proofs.Truth.{pick-for}
 use Rattle.definition.proofs.Lists.{snoc-cases, same-itself, lookup-in, getD-in}
@@ -289,18 +289,18 @@ module _ (start : ℕ) where
         declared = just-declared p d₂ (takeId u) refl;
       }
 
-  -- what a way asks
-  abbrev GoodWay : List (Key × ℕ) → Way → Type 0
-  GoodWay types direct = Unit
-  GoodWay types wrapped = Unit
-  GoodWay types (remapped b n) = Entered types b × (n ≤ W)
+  -- what a form asks
+  abbrev GoodForm : List (Key × ℕ) → PointerForm → Type 0
+  GoodForm types direct = Unit
+  GoodForm types wrapped = Unit
+  GoodForm types (remapped b n) = Entered types b × (n ≤ W)
 
-  way-good : (ts : List TypeEntry) (s : State) → Referring ts → Known (length ts) s → (t : ℕ) (o : Option ℕ) (n : Option ℕ) → BaseIn (innerAt ts t) o → SmallSize n → GoodWay (s .types) (remappedWay o n)
-  way-good ts s rf k t none n b m = tt
-  way-good ts s rf k t (some b) none i m = tt
-  way-good ts s rf k t (some b) (some n) i m = (k .all b (rf t b i), m)
+  form-good : (ts : List TypeEntry) (s : State) → Referring ts → Known (length ts) s → (t : ℕ) (o : Option ℕ) (n : Option ℕ) → BaseIn (innerAt ts t) o → SmallSize n → GoodForm (s .types) (remappedForm o n)
+  form-good ts s rf k t none n b m = tt
+  form-good ts s rf k t (some b) none i m = tt
+  form-good ts s rf k t (some b) (some n) i m = (k .all b (rf t b i), m)
 
-  pointer-found : (w : Way) (ts : List TypeEntry) (g : Global) (s : State) (P : List (ℕ × ℕ)) → GoodTypes ts → GoodWay (s .types) w → Over 0 P → Over 1 P → Over 2 P → Entered (s .types) (g .type) → Sound start P s
+  pointer-found : (w : PointerForm) (ts : List TypeEntry) (g : Global) (s : State) (P : List (ℕ × ℕ)) → GoodTypes ts → GoodForm (s .types) w → Over 0 P → Over 1 P → Over 2 P → Entered (s .types) (g .type) → Sound start P s
       → GotId start P s (pointerOf w ts g s)
   pointer-found direct ts g s P gs gw o o₁ o₂ e h =
       let r = find-found start (shape (pointer (g .type) (storageClass (g .space)))) s P o₁ (record { entered = λ x m. only-one m e; small = class-small (g .space) }) h in
@@ -364,10 +364,10 @@ module _ (start : ℕ) where
       let r₃ = read-more w rd in
       let e₃ = r₃ .types .all (g .type) lt in
       let base = base-in (innerAt ts (g .type)) in
-      let gw : GoodWay (s₃ .types) (wayOf n g) = pick-for (GoodWay (s₃ .types)) (needsWrapper ts g) wrapped _ tt
-      (pick-for (GoodWay (s₃ .types)) (isBound g) _ direct (way-good ts s₃ rf (r₃ .types) (g .type) (bindingBase (innerAt ts (g .type))) (remapOf (n .remaps) (g .group) (g .binding)) base (remap-small (n .remaps) (g .group) (g .binding) rm)) tt) in
-      let p = pointerOf (wayOf n g) ts g s₃ in
-      let q = pointer-found (wayOf n g) ts g s₃ P gs gw (lit< tt, tt) (lit< tt, tt) (lit< tt, tt) e₃ (k₃ .sound) in
+      let gw : GoodForm (s₃ .types) (pointerFormOf n g) = pick-for (GoodForm (s₃ .types)) (needsWrapper ts g) wrapped _ tt
+      (pick-for (GoodForm (s₃ .types)) (isBound g) _ direct (form-good ts s₃ rf (r₃ .types) (g .type) (bindingBase (innerAt ts (g .type))) (remapOf (n .remaps) (g .group) (g .binding)) base (remap-small (n .remaps) (g .group) (g .binding) rm)) tt) in
+      let p = pointerOf (pointerFormOf n g) ts g s₃ in
+      let q = pointer-found (pointerFormOf n g) ts g s₃ P gs gw (lit< tt, tt) (lit< tt, tt) (lit< tt, tt) e₃ (k₃ .sound) in
       let b = bindingBase (innerAt ts (g .type)) in
       let s₄ = blockBase (eqb (g .space) storageSpace) b (p .state) in
       let k₄ = block-kept (eqb (g .space) storageSpace) b (p .state) P (lit< tt, tt) (base-entered ts (p .state) rf (read-more (q .grew) r₃ .types) (g .type) b base) (q .sound) in

@@ -4,7 +4,7 @@ use mathlib.Core.Bool.{Bool, true, false, _&&_, Bool·beq}
 use mathlib.Core.List.{List, [], _∷_}
 use native.Mathlib.Decide.{ℕ-discrete}
 use lib.Dec.{T, eqb}
-use lib.ListN.{replicate}
+use lib.ListN.{length, getD, replicate}
 use Rattle.definition.specs.Choice.{every}
 use Rattle.definition.specs.Bytes.{u16At, u32At, u64At, nameAt, nameEnd}
 use Rattle.definition.specs.Finding.{formatCapabilities, dimCapabilities, literalWith, findAt, find, compositeOf, nullOf}
@@ -23,7 +23,7 @@ use Rattle.definition.specs.Operations.{Answer, Written, Wrapping, Wraps
 
 -- a sheet, and what an operation answers
 pub data Row : Type 0 where
-  -- the module's words, and the rest of the buffer unchanged
+  -- the module's words, whose number is the word count and whose fourth is the bound, and the rest of the buffer unchanged
   writes : List ℕ → List ℕ → Row
   -- word count and bound
   counts : List ℕ → ℕ → ℕ → Row
@@ -53,7 +53,7 @@ over (w ∷ ws) [] = w ∷ over ws []
 over (w ∷ ws) (x ∷ b) = w ∷ over ws b
 
 unfoldable pub right : Row → Bool
-right (writes s ws) = sameBytes (declare s lent .buffer) (over ws lent)
+right (writes s ws) = wroteCounts (length ws) (getD ws 3 0) (declare s lent .answer) && sameBytes (declare s lent .buffer) (over ws lent)
 right (counts s n bound) = wroteCounts n bound (declare s lent .answer)
 right (refuses s n) = refusedWith n (declare s lent .answer)
 right (wraps s k b) = wrapsAs b (wrapped s k)

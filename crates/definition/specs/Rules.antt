@@ -303,23 +303,23 @@ unfoldable pub remapOf : List Remap → ℕ → ℕ → Option ℕ
 remapOf [] g b = none
 remapOf (m ∷ ms) g b = pick (eqb (m .group) g && eqb (m .binding) b) (some (m .size)) (remapOf ms g b)
 
--- how the global's pointer is come by
-pub data Way : Type 0 where
-  direct : Way
-  wrapped : Way
-  remapped : ℕ → ℕ → Way
+-- the form of a global's pointer: to its type as it is, to a wrapper, or to a remapped array
+pub data PointerForm : Type 0 where
+  direct : PointerForm
+  wrapped : PointerForm
+  remapped : ℕ → ℕ → PointerForm
 
 -- "A bound global of BindingArray type whose group and binding are remapped uses a shared pointer shape .. on other globals a
 -- remap does nothing."
-abbrev pub remappedWay : Option ℕ → Option ℕ → Way
-remappedWay none n = direct
-remappedWay (some b) none = direct
-remappedWay (some b) (some n) = remapped b n
+abbrev pub remappedForm : Option ℕ → Option ℕ → PointerForm
+remappedForm none n = direct
+remappedForm (some b) none = direct
+remappedForm (some b) (some n) = remapped b n
 
-abbrev pub wayOf : Seen → Global → Way
-wayOf n g =
+abbrev pub pointerFormOf : Seen → Global → PointerForm
+pointerFormOf n g =
     pick (needsWrapper (n .types) g) wrapped
-    (pick (isBound g) (remappedWay (bindingBase (innerAt (n .types) (g .type))) (remapOf (n .remaps) (g .group) (g .binding))) direct)
+    (pick (isBound g) (remappedForm (bindingBase (innerAt (n .types) (g .type))) (remapOf (n .remaps) (g .group) (g .binding))) direct)
 
 -- "A wrapper's id is taken before its pointer's", "A wrapper has Block, then its member's decorations"
 abbrev pub wrap : List TypeEntry → ℕ → ℕ → State → Got
@@ -329,7 +329,7 @@ wrap ts t class s =
     let u = declare (typeStruct w (g .id ∷ [])) (g .state) in
     got (suc (u .last)) (declare (typePointer (suc (u .last)) class w) (takeId u))
 
-abbrev pub pointerOf : Way → List TypeEntry → Global → State → Got
+abbrev pub pointerOf : PointerForm → List TypeEntry → Global → State → Got
 pointerOf direct ts g s = find (shape (pointer (g .type) (storageClass (g .space)))) s
 pointerOf wrapped ts g s = wrap ts (g .type) (storageClass (g .space)) s
 pointerOf (remapped b n) ts g s = find (shape (bindingPointer b n (g .space) (g .access))) s
@@ -358,7 +358,7 @@ declareGlobal o n g s =
     let id = suc (s .last) in
     let ts = n .types in
     let a = decorateBinding (isBound g) g id (decorateAccess (accessOf ts g) id (labelIf (o .debug) (name id) (g .name) (takeId s))) in
-    let p = pointerOf (wayOf n g) ts g a in
+    let p = pointerOf (pointerFormOf n g) ts g a in
     let b = blockBase (eqb (g .space) storageSpace) (bindingBase (innerAt ts (g .type))) (p .state) in
     let z = initFor (g .init) (getsNull o g) (g .type) b in
     declare (variable (p .id) id (storageClass (g .space)) (z .init)) (z .state)

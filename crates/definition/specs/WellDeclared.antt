@@ -102,14 +102,14 @@ needed c (i ∷ is) = occurrences c (needs i) + needed c is
 abbrev pub plainType : ℕ → Bool
 plainType o = among o (OpTypeBool ∷ OpTypeInt ∷ OpTypeFloat ∷ OpTypeVector ∷ OpTypeMatrix ∷ OpTypeImage ∷ OpTypeSampler ∷ OpTypeAccelerationStructureKHR ∷ OpTypeRayQueryKHR ∷ [])
 
-pub record Twins (i j : Instruction) : Type 0 where
+pub record EqualTypes (i j : Instruction) : Type 0 where
   pub plain : T (plainType (i .opcode))
   pub opcode : i .opcode ≡ j .opcode
   pub operands : i .operands ≡ j .operands
 
-abbrev pub NoTwins : List Instruction → Type 0
-NoTwins [] = Unit
-NoTwins (i ∷ is) = ((j : Instruction) → List·Memᴰ j is → Twins i j → ⊥) × NoTwins is
+abbrev pub NoEqualTypes : List Instruction → Type 0
+NoEqualTypes [] = Unit
+NoEqualTypes (i ∷ is) = ((j : Instruction) → List·Memᴰ j is → EqualTypes i j → ⊥) × NoEqualTypes is
 
 -- ---- what a reader finds declared
 
@@ -124,7 +124,7 @@ pub record WellDeclared (start bound : ℕ) (is : List Instruction) : Type 0 whe
   -- "listed exactly the capabilities needed by document 01's capability rules, each once"
   pub capabilities : (c : ℕ) → occurrences c (listedIn is) ≡ min 1 (needed c is)
   -- "no two type declarations .. equal"
-  pub no-twins : NoTwins is
+  pub no-equal-types : NoEqualTypes is
 
 -- ---- "the words declare its shape under that id", all the way down
 

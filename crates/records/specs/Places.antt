@@ -68,7 +68,7 @@ pub record Ample (p : Places) : Type 0 where
   pub globals : globalsMost ≤ length (p .globals)
 
 -- no more has been read of any kind than a sheet may have
-pub record Few (k : Counts) : Type 0 where
+pub record WithinLimits (k : Counts) : Type 0 where
   pub remaps : k .remaps ≤ remapsMost
   pub types : k .types ≤ typesMost
   pub constants : k .constants ≤ constantsMost

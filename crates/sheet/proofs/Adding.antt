@@ -14,7 +14,7 @@ use Rattle.definition.specs.Choice.{within}
 use Rattle.definition.specs.Sheet.{Record, tagRank, entryOf}
 use Rattle.definition.specs.Tests.{Seen, add, addRecord, placeTest, outOfOrder, room, readingTest, present}
 use Rattle.records.specs.Counted.{Counted, isThere}
-use Rattle.records.specs.Places.{Places, seenOf, Ample, Few, recordFrom, remapFrom, typeFrom, constantFrom, globalFrom, availableFrom}
+use Rattle.records.specs.Places.{Places, seenOf, Ample, WithinLimits, recordFrom, remapFrom, typeFrom, constantFrom, globalFrom, availableFrom}
 use Rattle.records.specs.declared.Counts.{Counts}
 use Rattle.records.specs.declared.Place.{Place}
 use Rattle.records.specs.declared.Place.the-variants.{Nowhere, At}
@@ -31,7 +31,7 @@ there s (At o) = refl
 count : {A : Type 0} (f : ℕ → A) (l : List ℕ) (n : ℕ) → n ≤ length l → length (map f (take n l)) ≡ n
 count f l n h = length-map (take n l) f ∙ length-take-le n l h
 
-pub counted : (s : List ℕ) (p : Places) (k : Counts) → Ample p → Few k → Counted (seenOf s p k) k
+pub counted : (s : List ℕ) (p : Places) (k : Counts) → Ample p → WithinLimits k → Counted (seenOf s p k) k
 counted s p k a f = record {
   rank = refl;
   available = there s (k .available);
@@ -41,7 +41,7 @@ counted s p k a f = record {
   globals = count (globalFrom s) (p .globals) (k .globals) (omega arith);
 }
 
-pub looked : (s : List ℕ) (p : Places) (k : Counts) → Ample p → Few k → Looked s (p .remaps) (p .types) k (seenOf s p k)
+pub looked : (s : List ℕ) (p : Places) (k : Counts) → Ample p → WithinLimits k → Looked s (p .remaps) (p .types) k (seenOf s p k)
 looked s p k a f = record { counted = counted s p k a f; remaps = refl; types = refl }
 
 -- ---- what a passed test of the place tells
@@ -88,7 +88,7 @@ map-snoc f (p ∷ os) o = ap (λ es. f p ∷ es) (map-snoc f os o)
 one-more : {A : Type 0} (f : ℕ → A) (l : List ℕ) (n at : ℕ) → n < length l → map f (take (n + 1) (set l n at)) ≡ map f (take n l) ++ (f at ∷ [])
 one-more f l n at h = rw (add-one, take-suc-set l n at h) (map-snoc f (take n l) at)
 
-module _ (s : List ℕ) (p : Places) (k : Counts) (at : ℕ) (a : Ample p) (f : Few k) where
+module _ (s : List ℕ) (p : Places) (k : Counts) (at : ℕ) (a : Ample p) (f : WithinLimits k) where
   abbrev n : Seen
   n = seenOf s p k
 
@@ -97,7 +97,7 @@ module _ (s : List ℕ) (p : Places) (k : Counts) (at : ℕ) (a : Ample p) (f : 
 
   abbrev Adds : ℕ → Type 0
   Adds r = tagRank (recordFrom s at .tag) ≡ r → room (seenOf s p k) r ≡ true
-      → (seenOf s (notedAt p k r at) (addCounts k r at) ≡ addRecord (seenOf s p k) (recordFrom s at)) × Few (addCounts k r at)
+      → (seenOf s (notedAt p k r at) (addCounts k r at) ≡ addRecord (seenOf s p k) (recordFrom s at)) × WithinLimits (addCounts k r at)
 
   adds-1 : Adds 1
   unfolding notedAt addCounts addRecord add entryOf
@@ -132,7 +132,7 @@ module _ (s : List ℕ) (p : Places) (k : Counts) (at : ℕ) (a : Ample p) (f : 
       (simp (e, one-more (globalFrom s) (p .globals) (k .globals) at (omega arith)), record { remaps = f .remaps; types = f .types; constants = f .constants; globals = omega arith })
 
   pub adds : (r : ℕ) → r ≡ tagRank (recordFrom s at .tag) → Placed (seenOf s p k) (tagRank (recordFrom s at .tag))
-      → (seenOf s (notedAt p k r at) (addCounts k r at) ≡ addRecord (seenOf s p k) (recordFrom s at)) × Few (addCounts k r at)
+      → (seenOf s (notedAt p k r at) (addCounts k r at) ≡ addRecord (seenOf s p k) (recordFrom s at)) × WithinLimits (addCounts k r at)
   adds r e h =
       by-rank Adds adds-1 adds-2 adds-3 adds-4 adds-5 r
       (rw e (h .ranked)) (rw e (rank-most (recordFrom s at .tag))) (sym e) (rw e (h .room))

@@ -7,7 +7,7 @@ use lib.ListN.{set}
 use Rattle.definition.specs.Choice.{pick}
 use Rattle.definition.specs.Sheet.{tagRank}
 use Rattle.definition.specs.Tests.{readingTest, addRecord}
-use Rattle.records.specs.Places.{Places, seenOf, recordFrom, Ample, Few}
+use Rattle.records.specs.Places.{Places, seenOf, recordFrom, Ample, WithinLimits}
 use Rattle.records.specs.declared.Counts.{Counts}
 use Rattle.records.specs.declared.Place.the-variants.{Nowhere, At}
 
@@ -38,13 +38,13 @@ addCounts k r at = record {
 -- the record at a place passed its tests, after what is held in p and k
 pub record Passed (s : List ℕ) (p : Places) (k : Counts) (at : ℕ) : Type 0 where
   pub ample : Ample p
-  pub few : Few k
+  pub few : WithinLimits k
   pub small : at < 4294967296
   pub tested : readingTest (seenOf s p k) (recordFrom s at) ≡ 0
 
 -- what is then held in p′ and k′ is what was held, with the record added
 pub record Held (s : List ℕ) (p : Places) (k : Counts) (at : ℕ) (p′ : Places) (k′ : Counts) : Type 0 where
   pub ample : Ample p′
-  pub few : Few k′
+  pub few : WithinLimits k′
   pub counts : k′ ≡ addCounts k (tagRank (recordFrom s at .tag)) at
   pub seen : seenOf s p′ k′ ≡ addRecord (seenOf s p k) (recordFrom s at)

@@ -4,7 +4,7 @@ use records::Place;
 ghost use mathlib.Core.Path.{_≡_};
 ghost use Prim.Native.Nat.{_<_};
 ghost use lib.ListN.{set};
-ghost use Rattle.records.specs.Places.{placesOf, Few};
+ghost use Rattle.records.specs.Places.{placesOf, WithinLimits};
 ghost use Rattle.sheet.specs.Holding.{noCounts, notedAt, addCounts, Passed, Held};
 
 pub fn nothing() -> Counts
@@ -54,7 +54,7 @@ fn note(
 
 // The counts after a record of rank r.
 fn added(mut k: Counts, r: u8, at: usize) -> Counts
-    requires { ⌜ Few k ⌝ }
+    requires { ⌜ WithinLimits k ⌝ }
     ensures { λ x. ⌜ x ≡ addCounts k r at ⌝ }
 {
     k.rank = r;

@@ -17,7 +17,7 @@ use Rattle.definition.specs.Operations.{Progress, recordTest, declareRecord, no
 use Rattle.definition.proofs.Truth.{first-passed}
 use Rattle.definition.proofs.Lists.{getD-snoc}
 use Rattle.records.specs.declared.Counts.{Counts}
-use Rattle.records.specs.Places.{Places, seenOf, Ample, Few, recordFrom, typesFrom}
+use Rattle.records.specs.Places.{Places, seenOf, Ample, WithinLimits, recordFrom, typesFrom}
 use Rattle.records.proofs.Places.{header-size, whole}
 use Rattle.records.proofs.Loop.{Going, start, goes-on, next-inside, ends-fit, ends-four, ends-refused, judge-go}
 use Rattle.sheet.specs.Holding.{noCounts, addCounts, Passed, Held as Kept}
@@ -48,7 +48,7 @@ pub record Holds (s T₀ S₀ m₀ : List ℕ) (p₀ : Places) (nr nb : ℕ) (T 
   pub constants : length (p .constants) ≡ length (p₀ .constants)
   pub globals : length (p .globals) ≡ length (p₀ .globals)
   pub ample : Ample p
-  pub few : Few k
+  pub few : WithinLimits k
   pub small : length s ≤ 16384
   pub used : Used nr nb at k w
   pub memo : Memo (seenOf s p k .types) m
@@ -58,7 +58,7 @@ pub record Holds (s T₀ S₀ m₀ : List ℕ) (p₀ : Places) (nr nb : ℕ) (T 
   pub going : Going recordTest (declareRecord (optionsOf (flagsOf s))) (recordsOf s) s at (progressOf s p k state)
 
 -- what was read, as a turn asks for it
-pub before : (s : List ℕ) (p : Places) (k : Counts) → Ample p → Few k → Before s (p .remaps) (p .types) k (seenOf s p k)
+pub before : (s : List ℕ) (p : Places) (k : Counts) → Ample p → WithinLimits k → Before s (p .remaps) (p .types) k (seenOf s p k)
 before s p k a f = record { looked = looked s p k a f; available = refl }
 
 pub begins : (s T S m : List ℕ) (p : Places) (nr nb start′ : ℕ) (k : Counts) (w : Writer) → headerTest s ≡ 0 → Ample p → ((j : ℕ) → getD m j 0 ≡ 0) → k ≡ noCounts

@@ -11,7 +11,7 @@ use lib.ListN.{length}
 use Rattle.definition.specs.Tests.{Seen, room}
 use Rattle.records.specs.declared.Counts.{Counts}
 use Rattle.records.specs.Counted.{Counted}
-use Rattle.records.specs.Places.{Few}
+use Rattle.records.specs.Places.{WithinLimits}
 use Rattle.sheet.specs.Holding.{addCounts}
 use Rattle.sheet.proofs.Adding.{by-rank}
 use Rattle.writer.specs.declared.Writer.{Writer}
@@ -40,7 +40,7 @@ pub record Used (nr nb at : ℕ) (k : Counts) (w : Writer) : Type 0 where
   pub declarations : w .declarations ≤ 3 * at
   pub last : w .idgen .last ≤ 4294967295 + at
 
-module _ (s T S : List ℕ) (nr nb at : ℕ) (k : Counts) (w : Writer) (u : Used nr nb at k w) (f : Few k) (small : length s ≤ nb) (recs : (length s ≤ 3 * nr) ⊎ (576 ≤ nr))
+module _ (s T S : List ℕ) (nr nb at : ℕ) (k : Counts) (w : Writer) (u : Used nr nb at k w) (f : WithinLimits k) (small : length s ≤ nb) (recs : (length s ≤ 3 * nr) ⊎ (576 ≤ nr))
     (tables : 24 * nr + nb ≤ length T) (sections : 7 * nb ≤ length S) (short : length s ≤ 16384) where
   pub no-room : at ≤ length s → Room nothing w T S
   no-room inside = let e : countOf k ≤ nr = ⊎-elim (λ l. omega arith) (λ l. omega arith) recs in omega arith

@@ -9,7 +9,7 @@ use Rattle.definition.specs.Sheet.{headerLength, startOf, flagsOf, optionsOf, g
 use Rattle.definition.specs.Tests.{Seen, valuesFit, Judged, fit, refused, judge, headerTest, records, sheetMost, typesMost, constantsMost, globalsMost}
 use Rattle.definition.specs.Operations.{Progress, begin, recordTest, declareRecord, noGlobal}
 use Rattle.records.specs.declared.Counts.{Counts}
-use Rattle.records.specs.Places.{Places, seenOf, Ample, Few}
+use Rattle.records.specs.Places.{Places, seenOf, Ample, WithinLimits}
 use Rattle.writer.specs.declared.Writer.{Writer}
 use Rattle.writer.specs.Cost.{nothing}
 use Rattle.writer.specs.Held.{Held, Room}
@@ -47,7 +47,7 @@ pub record Fits (s : List ℕ) (bytes : ℕ) (p : Places) (T S : List ℕ) (k : 
   pub globals : GlobalsFit (seenOf s p k)
   pub held : Held w T S (progress .state)
   pub ample : Ample p
-  pub few : Few k
+  pub few : WithinLimits k
   pub room : Room nothing w T S
   pub size : w .bytes ≡ bytes
 

@@ -11,5 +11,5 @@ pub record Put (ws before after : List ℕ) (n : ℕ) : Type 0 where
   pub count : n ≡ putCount ws before
 
 -- few enough operands that an instruction's word count stays within its 16 bits, with the at most four words before them
-abbrev pub Few : List ℕ → Type 0
-Few xs = length xs < 65532
+abbrev pub FitsWordCount : List ℕ → Type 0
+FitsWordCount xs = length xs < 65532

@@ -7,7 +7,7 @@
 ghost use mathlib.Core.List.{[], _∷_};
 ghost use Prim.Native.Nat.{_<_};
 ghost use Rattle.definition.specs.Instructions.{words, capability, name, memberName, decorate, memberDecorate, typeBool, typeInt, typeFloat, typeVector, typeMatrix, typeImage, typeSampler, typeAccelerationStructure, typeRayQuery, typeArray, typeRuntimeArray, typeStruct, typePointer, constantTrue, constantFalse, constant, constantComposite, constantNull, variable};
-ghost use Rattle.spirv.specs.Put.{Put, Few};
+ghost use Rattle.spirv.specs.Put.{Put, FitsWordCount};
 ghost use Rattle.spirv.specs.Heads.{structHead, compositeHead};
 ghost use Rattle.spirv.specs.Initializer.{initOf};
 use crate::layout::put_head;
@@ -68,14 +68,14 @@ const OP_TYPE_ACCELERATION_STRUCTURE_KHR: u32 = 5341;
 // ---- debug
 
 pub fn name(sink: &mut [u32], target: u32, bytes: &[u8]) -> usize
-    requires { ⌜ Few (now bytes) ⌝ }
+    requires { ⌜ FitsWordCount (now bytes) ⌝ }
     ensures { λ r. ⌜ Put (words (name target (now (bytes .entry)))) (now (sink .entry)) (now (sink .exit)) r ⌝ }
 {
     put_name(sink, OP_NAME, &[target], bytes)
 }
 
 pub fn member_name(sink: &mut [u32], target: u32, member: u32, bytes: &[u8]) -> usize
-    requires { ⌜ Few (now bytes) ⌝ }
+    requires { ⌜ FitsWordCount (now bytes) ⌝ }
     ensures { λ r. ⌜ Put (words (memberName target member (now (bytes .entry)))) (now (sink .entry)) (now (sink .exit)) r ⌝ }
 {
     put_name(sink, OP_MEMBER_NAME, &[target, member], bytes)
@@ -84,7 +84,7 @@ pub fn member_name(sink: &mut [u32], target: u32, member: u32, bytes: &[u8]) -> 
 // ---- annotations
 
 pub fn decorate(sink: &mut [u32], target: u32, decoration: u32, operands: &[u32]) -> usize
-    requires { ⌜ Few (now operands) ⌝ }
+    requires { ⌜ FitsWordCount (now operands) ⌝ }
     ensures { λ r. ⌜ Put (words (decorate target decoration (now (operands .entry)))) (now (sink .entry)) (now (sink .exit)) r ⌝ }
 {
     put_list(sink, OP_DECORATE, &[target, decoration], operands)
@@ -97,7 +97,7 @@ pub fn member_decorate(
     decoration: u32,
     operands: &[u32],
 ) -> usize
-    requires { ⌜ Few (now operands) ⌝ }
+    requires { ⌜ FitsWordCount (now operands) ⌝ }
     ensures { λ r. ⌜ Put (words (memberDecorate target member decoration (now (operands .entry)))) (now (sink .entry)) (now (sink .exit)) r ⌝ }
 {
     put_list(
@@ -208,7 +208,7 @@ pub fn type_runtime_array(sink: &mut [u32], id: u32, element: u32) -> usize
 }
 
 pub fn type_struct(sink: &mut [u32], id: u32, members: &[u32]) -> usize
-    requires { ⌜ Few (now members) ⌝ }
+    requires { ⌜ FitsWordCount (now members) ⌝ }
     ensures { λ r. ⌜ Put (words (typeStruct id (now (members .entry)))) (now (sink .entry)) (now (sink .exit)) r ⌝ }
 {
     put_list(sink, OP_TYPE_STRUCT, &[id], members)
@@ -261,7 +261,7 @@ pub fn constant_64bit(sink: &mut [u32], ty: u32, id: u32, low: u32, high: u32) -
 }
 
 pub fn constant_composite(sink: &mut [u32], ty: u32, id: u32, parts: &[u32]) -> usize
-    requires { ⌜ Few (now parts) ⌝ }
+    requires { ⌜ FitsWordCount (now parts) ⌝ }
     ensures { λ r. ⌜ Put (words (constantComposite ty id (now (parts .entry)))) (now (sink .entry)) (now (sink .exit)) r ⌝ }
 {
     put_list(sink, OP_CONSTANT_COMPOSITE, &[ty, id], parts)

@@ -4,7 +4,7 @@ ghost use mathlib.Core.List.{_++_};
 ghost use Prim.Native.Nat.{_+_, _≤_, _<_};
 ghost use lib.ListN.{length, getD, drop};
 ghost use Rattle.definition.specs.Instructions.{words, packed, plain, typeOp, valueOp, header};
-ghost use Rattle.spirv.specs.Put.{Put, Few};
+ghost use Rattle.spirv.specs.Put.{Put, FitsWordCount};
 ghost use Rattle.spirv.specs.Heads.{head};
 ghost use Rattle.spirv.specs.Sections.{Spliced, Room, sections};
 use crate::helpers::string_to_words;
@@ -33,7 +33,7 @@ pub fn put_head(sink: &mut [u32], count: usize, op: u32, operands: &[u32]) -> us
 
 // An instruction that gives no id.
 pub fn put_plain(sink: &mut [u32], op: u32, operands: &[u32]) -> usize
-    requires { ⌜ (op < 65536) × Few (now operands) ⌝ }
+    requires { ⌜ (op < 65536) × FitsWordCount (now operands) ⌝ }
     ensures { λ r. ⌜ Put (words (plain op (now (operands .entry)))) (now (sink .entry)) (now (sink .exit)) r ⌝ }
 {
     put_head(sink, operands.len() + 1, op, operands)
@@ -41,7 +41,7 @@ pub fn put_plain(sink: &mut [u32], op: u32, operands: &[u32]) -> usize
 
 // An instruction whose first operand is the id that it gives to a type.
 pub fn put_type(sink: &mut [u32], op: u32, operands: &[u32]) -> usize
-    requires { ⌜ (op < 65536) × Few (now operands) × (1 ≤ length (now operands)) ⌝ }
+    requires { ⌜ (op < 65536) × FitsWordCount (now operands) × (1 ≤ length (now operands)) ⌝ }
     ensures { λ r. ⌜ Put (words (typeOp op (getD (now (operands .entry)) 0 0) (drop 1 (now (operands .entry))))) (now (sink .entry)) (now (sink .exit)) r ⌝ }
 {
     put_plain(sink, op, operands)
@@ -49,7 +49,7 @@ pub fn put_type(sink: &mut [u32], op: u32, operands: &[u32]) -> usize
 
 // An instruction whose first operands are a type's id and the id that it gives to a value.
 pub fn put_value(sink: &mut [u32], op: u32, operands: &[u32]) -> usize
-    requires { ⌜ (op < 65536) × Few (now operands) × (2 ≤ length (now operands)) ⌝ }
+    requires { ⌜ (op < 65536) × FitsWordCount (now operands) × (2 ≤ length (now operands)) ⌝ }
     ensures { λ r. ⌜ Put (words (valueOp op (getD (now (operands .entry)) 0 0) (getD (now (operands .entry)) 1 0) (drop 2 (now (operands .entry))))) (now (sink .entry)) (now (sink .exit)) r ⌝ }
 {
     put_plain(sink, op, operands)
@@ -57,7 +57,7 @@ pub fn put_value(sink: &mut [u32], op: u32, operands: &[u32]) -> usize
 
 // An instruction with a list of any length behind its first operands.
 pub fn put_list(sink: &mut [u32], op: u32, operands: &[u32], rest: &[u32]) -> usize
-    requires { ⌜ (op < 65536) × (length (now operands) < 4) × Few (now rest) ⌝ }
+    requires { ⌜ (op < 65536) × (length (now operands) < 4) × FitsWordCount (now rest) ⌝ }
     ensures { λ r. ⌜ Put (words (plain op (now (operands .entry) ++ now (rest .entry)))) (now (sink .entry)) (now (sink .exit)) r ⌝ }
 {
     let at = operands.len() + 1;
@@ -72,7 +72,7 @@ pub fn put_list(sink: &mut [u32], op: u32, operands: &[u32], rest: &[u32]) -> us
 
 // An instruction with a string behind its first operands.
 pub fn put_name(sink: &mut [u32], op: u32, operands: &[u32], bytes: &[u8]) -> usize
-    requires { ⌜ (op < 65536) × (length (now operands) < 4) × Few (now bytes) ⌝ }
+    requires { ⌜ (op < 65536) × (length (now operands) < 4) × FitsWordCount (now bytes) ⌝ }
     ensures { λ r. ⌜ Put (words (plain op (now (operands .entry) ++ packed (now (bytes .entry))))) (now (sink .entry)) (now (sink .exit)) r ⌝ }
 {
     let at = operands.len() + 1;

@@ -19,7 +19,7 @@ use Rattle.writer.specs.declared.Writer.{Writer}
 use Rattle.writer.specs.Cost.{recordCost}
 use Rattle.writer.specs.Held.{Room}
 use Rattle.finding.proofs.Prices.{AtMost}
-use Rattle.writer_constants.specs.Entered.{expressionCost, Few, ConstantWritten}
+use Rattle.writer_constants.specs.Entered.{expressionCost, FewParts, ConstantWritten}
 use Rattle.writer_constants.specs.Tested.{fieldsOf, Tested}
 use Rattle.writer_constants.proofs.Staging.{u16s-length}
 
@@ -27,7 +27,7 @@ use Rattle.writer_constants.proofs.Staging.{u16s-length}
 
 module _ (b : List ℕ) where
   abbrev Priced : Fields Expression → Type 0
-  Priced f = f .end ≡ length b → expressionFits (f .value) ≡ true → length b < 65536 → AtMost (expressionCost (f .value)) (recordCost (length b + 3)) × Few (f .value)
+  Priced f = f .end ≡ length b → expressionFits (f .value) ≡ true → length b < 65536 → AtMost (expressionCost (f .value)) (recordCost (length b + 3)) × FewParts (f .value)
 
   -- a form byte, and one byte more at least
   two-bytes : 2 ≤ literalFields b .end
@@ -49,10 +49,10 @@ module _ (b : List ℕ) where
 -- ---- of a tested record
 
 module _ (n : ℕ) (r : Record) (t : Tested n r) where
-  cheap : AtMost (expressionCost (fieldsOf r .value)) (recordCost (length (r .body) + 3)) × Few (fieldsOf r .value)
+  cheap : AtMost (expressionCost (fieldsOf r .value)) (recordCost (length (r .body) + 3)) × FewParts (fieldsOf r .value)
   cheap = priced (r .body) (r .tag) (t .whole) (t .values) (t .small)
 
-  pub few : Few (fieldsOf r .value)
+  pub few : FewParts (fieldsOf r .value)
   few = cheap .1
 
   pub roomy : (w : Writer) (T S : List ℕ) → Room (recordCost (length (r .body) + 3)) w T S → Room (expressionCost (fieldsOf r .value)) w T S

@@ -31,12 +31,12 @@ expressionCost (Compose t cs) = compositeCost (entry t) (length cs) ⊕ aValue
 expressionCost (Splat n c) = compositeCost (shape (vector n bool)) n ⊕ aValue
 
 -- so few parts that an instruction's word count can say how many; a sheet has fewer
-abbrev pub Few : Expression → Type 0
-Few (Value l) = Unit
-Few (Alias c) = Unit
-Few (ZeroValue t) = Unit
-Few (Compose t cs) = length cs < 65000
-Few (Splat n c) = Unit
+abbrev pub FewParts : Expression → Type 0
+FewParts (Value l) = Unit
+FewParts (Alias c) = Unit
+FewParts (ZeroValue t) = Unit
+FewParts (Compose t cs) = length cs < 65000
+FewParts (Splat n c) = Unit
 
 -- ---- promises
 

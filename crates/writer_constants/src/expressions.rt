@@ -33,7 +33,7 @@ ghost use Rattle.records.specs.Places.{typesFrom};
 ghost use Rattle.entries.specs.Constants.{expressionOf};
 ghost use Rattle.writer.specs.Cost.{aValue};
 ghost use Rattle.writer.specs.Held.{RoomIn, Room, kindCode};
-ghost use Rattle.writer_constants.specs.Entered.{EnteredFound, SplatType, ConstantWritten, expressionCost, Few};
+ghost use Rattle.writer_constants.specs.Entered.{EnteredFound, SplatType, ConstantWritten, expressionCost, FewParts};
 
 // Enters a constant of a type, once both are found.
 fn enter_found(tables: &mut [u64], g: Taken, t: LookupType, kind: u64) -> Writer
@@ -128,7 +128,7 @@ pub fn write_constant_expr(
     b: &[u8],
     e: Expression,
 ) -> Writer
-    requires { ⌜ (n ≤ length (now types)) × (Few (expressionOf (now b) e) × Room (expressionCost (expressionOf (now b) e)) w (now tables) (now sections)) ⌝ }
+    requires { ⌜ (n ≤ length (now types)) × (FewParts (expressionOf (now b) e) × Room (expressionCost (expressionOf (now b) e)) w (now tables) (now sections)) ⌝ }
     ensures { λ r. ⌜ ConstantWritten (expressionCost (expressionOf (now (b .entry)) e)) (typesFrom (now (s .entry)) (now (types .entry)) n) (expressionOf (now (b .entry)) e) w (now (tables .entry)) (now (sections .entry)) r (now (tables .exit)) (now (sections .exit)) ⌝ }
 {
     match e {

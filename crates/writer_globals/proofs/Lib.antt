@@ -1,6 +1,6 @@
 pub mod Rooms
 pub mod Notes
-pub mod Ways
+pub mod PointerForms
 pub mod Inits
 pub mod Whole
 pub mod Chain

@@ -28,9 +28,9 @@ use Rattle.writer.specs.Steps.{Kept, GotBy, Took}
 use Rattle.finding.specs.Costs.{nullCost}
 use Rattle.finding.proofs.Prices.{AtMost}
 use Rattle.writer_globals.specs.Costs.{pointerCost, globalCost}
-use Rattle.writer_globals.specs.Globals.{Added, pointerBy, wayIn, bindingDecorated, initIn, Initialised, GlobalKept}
+use Rattle.writer_globals.specs.Globals.{Added, pointerBy, pointerFormIn, bindingDecorated, initIn, Initialised, GlobalKept}
 use Rattle.writer_globals.specs.Records.{globalIn, Tested}
-use Rattle.writer_globals.specs.declared.pointers.Way.{Way}
+use Rattle.writer_globals.specs.declared.pointers.PointerForm.{PointerForm}
 use Rattle.writer_globals.specs.declared.Inited.{Inited}
 use Rattle.writer_globals.proofs.Rooms.{_▹_, grown-within, words-left, room-left, tail-still, tail-then}
 
@@ -89,7 +89,7 @@ module _ (flags : ℕ) (b : List ℕ) (g : GlobalVariable) (s : State) where
   -- the same with the definition's parts
   abbrev ruled : List TypeEntry → List Remap → State
   ruled ts rs =
-      run (suc (s .last)) (accessOf ts gl) (λ id t. decorateBinding (eqb (boundNumber (g .binding)) 1) gl id t) (λ t. pointerOf (wayIn ts rs gl) ts gl t) (bindingBase (innerAt ts (g .ty))) nulls
+      run (suc (s .last)) (accessOf ts gl) (λ id t. decorateBinding (eqb (boundNumber (g .binding)) 1) gl id t) (λ t. pointerOf (pointerFormIn ts rs gl) ts gl t) (bindingBase (innerAt ts (g .ty))) nulls
       (storageClass (spaceNumber (g .space)))
 
   is-ruled : (d : Seen) (ts : List TypeEntry) (rs : List Remap) → d .types ≡ ts → d .remaps ≡ rs → ruled ts rs ≡ declareGlobal (optionsOf flags) d gl s
@@ -102,7 +102,7 @@ pub declared : (flags : ℕ) (ts : List TypeEntry) (rs : List Remap) (b : List �
     → {v₁ : Writer} {S₁ : List ℕ} → Added (naming (nameEnd b 0 + 2)) (labelIf (eqb (flags % 2) 1) (name (t .id)) (nameAt b 0)) (t .writer) S v₁ S₁
     → {a : Option ℕ} → a ≡ accessOf ts (globalOf b g) → {v₂ : Writer} {S₂ : List ℕ} → Added (annotating 6) (decorateAccess a (t .id)) v₁ S₁ v₂ S₂
     → {v₃ : Writer} {S₃ : List ℕ} → Added (annotating 8) (bindingDecorated (g .binding) (t .id)) v₂ S₂ v₃ S₃
-    → (y : Way) → ((x : State) → pointerBy y g x ≡ pointerOf (wayIn ts rs (globalOf b g)) ts (globalOf b g) x)
+    → (y : PointerForm) → ((x : State) → pointerBy y g x ≡ pointerOf (pointerFormIn ts rs (globalOf b g)) ts (globalOf b g) x)
     → {p : Taken} {T₄ S₄ : List ℕ} → GotBy pointerCost (pointerBy y g) v₃ T S₃ p T₄ S₄
     → {base : Option ℕ} → base ≡ bindingBase (innerAt ts (g .ty))
     → {v₅ : Writer} {T₅ S₅ : List ℕ} → Kept (annotating 3) (blockBase (eqb (spaceNumber (g .space)) 4) base) (p .writer) T₄ S₄ v₅ T₅ S₅

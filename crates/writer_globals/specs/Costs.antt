@@ -7,7 +7,7 @@ use Rattle.finding.specs.Costs.{nullCost}
 abbrev pub wrapperCost : Cost
 wrapperCost = anId ⊕ annotating 3 ⊕ annotating 5 ⊕ annotating 9 ⊕ declaring 3 ⊕ anId ⊕ declaring 4
 
--- a pointer, whichever way it is come by: a wrapper has the most annotations, a remapped array the most of all else
+-- a pointer, whatever its form: a wrapper has the most annotations, a remapped array the most of all else
 abbrev pub pointerCost : Cost
 pointerCost = record { types = 3; literals = 1; nulls = 0; values = 0; composites = 0; parts = 0; capabilities = 6; names = 0; annotations = 17; declarations = 17; ids = 5 }
 

@@ -12,7 +12,7 @@ use Rattle.definition.specs.Shapes.{storageClass, pointer, bindingPointer, entr
 use Rattle.definition.specs.State.{State, Got, got, takeId, annotate, declare}
 use Rattle.definition.specs.Tests.{Seen}
 use Rattle.definition.specs.Finding.{find}
-use Rattle.definition.specs.Rules.{GotInit, block, strideMember, needsWrapper, isBound, bindingBase, remapOf, innerAt, remappedWay, direct, wrapped, declareGlobal}
+use Rattle.definition.specs.Rules.{GotInit, block, strideMember, needsWrapper, isBound, bindingBase, remapOf, innerAt, remappedForm, direct, wrapped, declareGlobal}
 use Rattle.definition.specs.Rules as Defined
 use Rattle.kinds.specs.Numbers.{spaceNumber, spaceAccess}
 use Rattle.entries.specs.declared.globals.Binding.{Binding}
@@ -24,8 +24,8 @@ use Rattle.writer.specs.Cost.{Cost}
 use Rattle.writer.specs.Held.{Held, Grown}
 use Rattle.writer.specs.Steps.{Tail}
 use Rattle.finding.specs.Costs.{nullCost}
-use Rattle.writer_globals.specs.declared.pointers.Way.{Way}
-use Rattle.writer_globals.specs.declared.pointers.Way.the-variants.{Direct, Wrapped, Remapped}
+use Rattle.writer_globals.specs.declared.pointers.PointerForm.{PointerForm}
+use Rattle.writer_globals.specs.declared.pointers.PointerForm.the-variants.{Direct, Wrapped, Remapped}
 use Rattle.writer_globals.specs.declared.Inited.{Inited}
 
 -- a change of the state that touches the sections alone
@@ -43,8 +43,8 @@ wrapIn o t class s =
     let u = declare (typeStruct w (g .id ∷ [])) (g .state) in
     got (suc (u .last)) (declare (typePointer (suc (u .last)) class w) (takeId u))
 
--- the pointer of a global, by the way to it
-abbrev pub pointerBy : Way → GlobalVariable → State → Got
+-- the pointer of a global, by its form
+abbrev pub pointerBy : PointerForm → GlobalVariable → State → Got
 pointerBy Direct g s = find (shape (pointer (g .ty) (storageClass (spaceNumber (g .space))))) s
 pointerBy (Wrapped d) g s = wrapIn (numberOf d) (g .ty) (storageClass (spaceNumber (g .space))) s
 pointerBy (Remapped b n) g s = find (shape (bindingPointer b n (spaceNumber (g .space)) (spaceAccess (g .space)))) s
@@ -54,11 +54,11 @@ abbrev pub sizeFor : List Remap → Binding → Option ℕ
 sizeFor rs Unbound = none
 sizeFor rs (Bound r) = remapOf rs (r .group) (r .binding)
 
--- the definition's way, by the types and the remaps alone
-abbrev pub wayIn : List TypeEntry → List Remap → Global → Defined.Way
-wayIn ts rs g =
+-- the definition's form, by the types and the remaps alone
+abbrev pub pointerFormIn : List TypeEntry → List Remap → Global → Defined.PointerForm
+pointerFormIn ts rs g =
     pick (needsWrapper ts g) wrapped
-    (pick (isBound g) (remappedWay (bindingBase (innerAt ts (g .type))) (remapOf rs (g .group) (g .binding))) direct)
+    (pick (isBound g) (remappedForm (bindingBase (innerAt ts (g .type))) (remapOf rs (g .group) (g .binding))) direct)
 
 -- ---- decorations
 

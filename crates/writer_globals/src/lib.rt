@@ -14,7 +14,7 @@ use entries::globals::Init;
 use kinds::AddressSpace;
 use kinds::space_number;
 use lookup::LookupType;
-use pointers::way_of;
+use pointers::pointer_form_of;
 use pointers::write_pointer;
 use spirv::helpers::map_storage_class;
 use writer::Writer;
@@ -183,7 +183,7 @@ fn write_global_variable(
     let binding = g.binding;
     let init = g.init;
     let access = access_of(s, types, n, g);
-    let way = way_of(s, types, n, remaps, m, g);
+    let form = pointer_form_of(s, types, n, remaps, m, g);
     let base = type_facts::binding_base(s, types, n, g.ty as usize);
     let null = gets_null(space, flags / 2 % 2 == 1);
     let class = map_storage_class(space);
@@ -192,7 +192,7 @@ fn write_global_variable(
     let a = name_global(sections, t.writer, flags % 2 == 1, id, b);
     let c = decorate_access(sections, a, id, access);
     let e = decorate_binding(sections, c, id, binding);
-    let p = write_pointer(tables, sections, e, way, g);
+    let p = write_pointer(tables, sections, e, form, g);
     let f = block_base(tables, sections, p.writer, space, base);
     let z = write_init(tables, sections, f, init, null, ty);
     put_variable(sections, z.writer, p.id, id, class, z.there, z.init)

@@ -30,10 +30,10 @@ ghost use Rattle.writer.specs.Cost.{annotating};
 ghost use Rattle.writer.specs.Held.{RoomFor, Room};
 ghost use Rattle.writer.specs.Steps.{GotBy};
 ghost use Rattle.writer_globals.specs.Costs.{wrapperCost, pointerCost};
-ghost use Rattle.writer_globals.specs.Globals.{Added, wrapIn, pointerBy, wayIn, sizeFor};
+ghost use Rattle.writer_globals.specs.Globals.{Added, wrapIn, pointerBy, pointerFormIn, sizeFor};
 
-// How a global's pointer is come by.
-pub enum Way {
+// The form of a global's pointer: to its type, to a wrapper, or to a remapped array.
+pub enum PointerForm {
     Direct,
     Wrapped { stride: Number },
     Remapped { base: u16, size: u32 },
@@ -86,7 +86,7 @@ fn write_wrapper(
     }
 }
 
-// ---- the way
+// ---- the form
 
 // The size to which a global's binding is remapped; nothing remaps a global that is not bound.
 fn remapped_size(s: &[u8], remaps: &[u32], m: usize, binding: Binding) -> Number
@@ -99,23 +99,23 @@ fn remapped_size(s: &[u8], remaps: &[u32], m: usize, binding: Binding) -> Number
     }
 }
 
-// How the pointer of a global is come by, given the first n types and the first m remaps.
-pub fn way_of(s: &[u8], types: &[u32], n: usize, remaps: &[u32], m: usize, g: GlobalVariable) -> Way
+// The form of a global's pointer, given the first n types and the first m remaps.
+pub fn pointer_form_of(s: &[u8], types: &[u32], n: usize, remaps: &[u32], m: usize, g: GlobalVariable) -> PointerForm
     requires { ⌜ (n ≤ length (now types)) × (m ≤ length (now remaps)) ⌝ }
-    ensures { λ r. ⌜ ((b : List ℕ) (x : State) → pointerBy r g x ≡ pointerOf (wayIn (typesFrom (now (s .entry)) (now (types .entry)) n) (map (remapFrom (now (s .entry))) (take m (now (remaps .entry)))) (globalOf b g)) (typesFrom (now (s .entry)) (now (types .entry)) n) (globalOf b g) x) ⌝ }
+    ensures { λ r. ⌜ ((b : List ℕ) (x : State) → pointerBy r g x ≡ pointerOf (pointerFormIn (typesFrom (now (s .entry)) (now (types .entry)) n) (map (remapFrom (now (s .entry))) (take m (now (remaps .entry)))) (globalOf b g)) (typesFrom (now (s .entry)) (now (types .entry)) n) (globalOf b g) x) ⌝ }
 {
     let ty = g.ty as usize;
     let space = g.space;
     let binding = g.binding;
     if type_facts::global_needs_wrapper(s, types, n, ty, space) {
         let stride = type_facts::element_stride(s, types, n, ty);
-        return Way::Wrapped { stride };
+        return PointerForm::Wrapped { stride };
     }
     match type_facts::binding_base(s, types, n, ty) {
-        Base::Nothing => Way::Direct,
+        Base::Nothing => PointerForm::Direct,
         Base::Of(base) => match remapped_size(s, remaps, m, binding) {
-            Number::Nothing => Way::Direct,
-            Number::Of(size) => Way::Remapped { base, size },
+            Number::Nothing => PointerForm::Direct,
+            Number::Of(size) => PointerForm::Remapped { base, size },
         },
     }
 }
@@ -126,25 +126,25 @@ pub fn write_pointer(
     tables: &mut [u64],
     sections: &mut [u32],
     w: Writer,
-    way: Way,
+    form: PointerForm,
     g: GlobalVariable,
 ) -> Taken
     requires { ⌜ Room pointerCost w (now tables) (now sections) ⌝ }
-    ensures { λ r. ⌜ GotBy pointerCost (pointerBy way g) w (now (tables .entry)) (now (sections .entry)) r (now (tables .exit)) (now (sections .exit)) ⌝ }
+    ensures { λ r. ⌜ GotBy pointerCost (pointerBy form g) w (now (tables .entry)) (now (sections .entry)) r (now (tables .exit)) (now (sections .exit)) ⌝ }
 {
     let ty = g.ty;
     let space = g.space;
     let class = map_storage_class(space);
-    match way {
-        Way::Direct => {
+    match form {
+        PointerForm::Direct => {
             let l = LocalType::Pointer {
                 base: ty,
                 class: class as u8,
             };
             finding::get_type_id(tables, sections, w, LookupType::Local(l))
         }
-        Way::Wrapped { stride } => write_wrapper(tables, sections, w, ty, class, stride),
-        Way::Remapped { base, size } => {
+        PointerForm::Wrapped { stride } => write_wrapper(tables, sections, w, ty, class, stride),
+        PointerForm::Remapped { base, size } => {
             let l = LocalType::PointerToBindingArray { base, size, space };
             finding::get_type_id(tables, sections, w, LookupType::Local(l))
         }

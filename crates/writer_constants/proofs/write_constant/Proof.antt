@@ -4,7 +4,7 @@ use borrow.Author.Needs.{needs}
 use Rattle.definition.specs.Sheet.{Expression, recordAt}
 use Rattle.records.specs.Places.{typesFrom}
 use Rattle.writer.specs.Held.{Room}
-use Rattle.writer_constants.specs.Entered.{expressionCost, Few, ConstantWritten}
+use Rattle.writer_constants.specs.Entered.{expressionCost, FewParts, ConstantWritten}
 use Rattle.writer_constants.proofs.Records.{few, roomy, written, is-taken}
 use Rattle.writer_constants.proofs.write_constant.Statement.{statement}
 use Rattle.writer_constants.proofs.write_constant.Tie as tie
@@ -29,7 +29,7 @@ write-constant-expr-requires c κs =
     let q = is-taken (a .n) r (p .1 .0) (t .result) (b .result .now) (t .ensures) (b .ensures) (e .result) (e .ensures) in (
       p .0,
       (
-        subst Few (sym q) (few (a .n) r (p .1 .0)),
+        subst FewParts (sym q) (few (a .n) r (p .1 .0)),
         subst (λ (x : Expression). Room (expressionCost x) (a .w) (a .tables .now) (a .sections .now)) (sym q) (roomy (a .n) r (p .1 .0) (a .w) (a .tables .now) (a .sections .now) (p .1 .1)),
       ),
     )

@@ -13,8 +13,8 @@ use Rattle.writer_globals.proofs.write_global_variable.Tie as tie
 access-of-requires : tie.Need-access-of-requires
 access-of-requires c κs = search needs
 
-way-of-requires : tie.Need-way-of-requires
-way-of-requires c κs = search needs
+pointer-form-of-requires : tie.Need-pointer-form-of-requires
+pointer-form-of-requires c κs = search needs
 
 cast-binding-base : tie.Need-cast-binding-base
 cast-binding-base c = search needs
@@ -129,7 +129,7 @@ returns c =
     let b = a .b .now in
     let ts = typesFrom (a .s .now) (a .types .now) (a .n) in
     let rs = map (remapFrom (a .s .now)) (take (a .m) (a .remaps .now)) in
-    declared (a .flags) ts rs b (a .g) (c₇ .take-id .ensures) (c₆ .name-global .ensures) (c₁₂ .access-of .ensures b) (c₅ .decorate-access .ensures) (c₄ .decorate-binding .ensures) (c₁₁ .way-of .result) (c₁₁ .way-of .ensures b) (c₃ .write-pointer .ensures)
+    declared (a .flags) ts rs b (a .g) (c₇ .take-id .ensures) (c₆ .name-global .ensures) (c₁₂ .access-of .ensures b) (c₅ .decorate-access .ensures) (c₄ .decorate-binding .ensures) (c₁₁ .pointer-form-of .result) (c₁₁ .pointer-form-of .ensures b) (c₃ .write-pointer .ensures)
     (c₁₀ .binding-base .ensures) (c₂ .block-base .ensures) (c₉ .gets-null .ensures) (c₁ .write-init .ensures) (c₈ .map-storage-class .ensures) (c .before .before .put-variable .ensures)
 
 pub write-global-variable-spec : {M : Type 1} → statement M
@@ -137,7 +137,7 @@ write-global-variable-spec =
     tie.close
     (tie.spec
     access-of-requires
-    way-of-requires
+    pointer-form-of-requires
     cast-binding-base
     binding-base-requires
     gets-null-requires

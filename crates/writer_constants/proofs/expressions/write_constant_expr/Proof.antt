@@ -13,7 +13,7 @@ use Rattle.entries.specs.Constants.{expressionOf}
 use Rattle.lookup.specs.Local.{keyOf}
 use Rattle.writer.specs.Held.{Room}
 use Rattle.writer.specs.declared.Writer.{Writer}
-use Rattle.writer_constants.specs.Entered.{expressionCost, Few}
+use Rattle.writer_constants.specs.Entered.{expressionCost, FewParts}
 use Rattle.writer_constants.proofs.Entering.{splat-room, value-entered, alias-entered, zero-entered, compose-entered, splat-entered}
 use Rattle.writer_constants.proofs.Staging.{u16s-length}
 use Rattle.writer_constants.proofs.expressions.write_constant_expr.Statement.{statement}
@@ -111,7 +111,7 @@ stage-parts-requires c κs =
     let a = o .args in
     let e = c .before .before .e4 .given in
     let r = subst (Roomy (a .b .now) (a .w) (a .tables .now) (a .sections .now)) (e .1) (o .pre .1 .1) in
-    let l = u16s-length (a .b .now) 4 (e .0 .1 .0) in let m = subst (λ (x : Expression). Few (expressionOf (a .b .now) x)) (e .1) (o .pre .1 .0) in
+    let l = u16s-length (a .b .now) 4 (e .0 .1 .0) in let m = subst (λ (x : Expression). FewParts (expressionOf (a .b .now) x)) (e .1) (o .pre .1 .0) in
     (omega (arith, l, m), omega (arith, l, r .rows))
 
 cast-get-constant-composite : tie.Need-cast-get-constant-composite
@@ -123,7 +123,7 @@ get-constant-composite-requires c κs =
     let a = o .args in
     let e = c .before .before .before .before .before .before .before .e4 .given in
     let r = subst (Roomy (a .b .now) (a .w) (a .tables .now) (a .sections .now)) (e .1) (o .pre .1 .1) in
-    let l = u16s-length (a .b .now) 4 (e .0 .1 .0) in let m = subst (λ (x : Expression). Few (expressionOf (a .b .now) x)) (e .1) (o .pre .1 .0) in
+    let l = u16s-length (a .b .now) 4 (e .0 .1 .0) in let m = subst (λ (x : Expression). FewParts (expressionOf (a .b .now) x)) (e .1) (o .pre .1 .0) in
     (omega (arith, l, m), record { rows = omega (arith, l, r .rows, c .before .before .before .before .stage-parts .kept .0); words = omega (arith, l, r .words) })
 
 enter-found-requires-3 : tie.Need-enter-found-requires-3

@@ -1,13 +1,13 @@
--- Each way by its own callee: its promise is the way's pointer under the class that was found.
+-- Each form by its own callee: its promise is the form's pointer under the class that was found.
 -- Each has its own cost, which is within the one of all three.
 use mathlib.Core.Path.{sym, ap}
 use native.Mathlib.Omega.{arith}
 use borrow.Author.Needs.{needs}
 use Rattle.kinds.specs.Numbers.{spaceNumber}
-use Rattle.writer_globals.specs.declared.pointers.Way.{Way}
+use Rattle.writer_globals.specs.declared.pointers.PointerForm.{PointerForm}
 use Rattle.writer_globals.specs.Globals.{pointerBy}
 use Rattle.writer_globals.specs.Costs.{pointerCost}
-use Rattle.writer_globals.proofs.Ways.{class-low, cheaper, by-direct, by-wrapper}
+use Rattle.writer_globals.proofs.PointerForms.{class-low, cheaper, by-direct, by-wrapper}
 use Rattle.writer_globals.proofs.pointers.write_pointer.Statement.{statement}
 use Rattle.writer_globals.proofs.pointers.write_pointer.Tie as tie
 
@@ -23,14 +23,14 @@ cast-t15 c = omega (arith, c .before .before .map-storage-class .ensures, class-
 get-type-id-requires : tie.Need-get-type-id-requires
 get-type-id-requires c κs = search needs
 
-enum-known-way : tie.Need-enum-known-way
-enum-known-way c = search needs
+enum-known-form : tie.Need-enum-known-form
+enum-known-form c = search needs
 
 write-wrapper-requires : tie.Need-write-wrapper-requires
 write-wrapper-requires c κs = search needs
 
-enum-known-way-2 : tie.Need-enum-known-way-2
-enum-known-way-2 c = search needs
+enum-known-form-2 : tie.Need-enum-known-form-2
+enum-known-form-2 c = search needs
 
 get-type-id-requires-2 : tie.Need-get-type-id-requires-2
 get-type-id-requires-2 c κs = search needs
@@ -48,7 +48,7 @@ returns c =
     let c₃ = c₂ .before .before in
     let c₄ = c₃ .before .before .before in
     let a = c₄ .args in
-    cheaper pointerCost (omega arith) (λ s. by-direct (a .way) (a .g) (c₃ .map-storage-class .ensures) s (c₂ .enum-told .given .1)) (c₁ .get-type-id .ensures)
+    cheaper pointerCost (omega arith) (λ s. by-direct (a .form) (a .g) (c₃ .map-storage-class .ensures) s (c₂ .enum-told .given .1)) (c₁ .get-type-id .ensures)
 
 same-length-3 : tie.Need-same-length-3
 same-length-3 c = search needs
@@ -63,7 +63,7 @@ returns-2 c =
     let c₃ = c₂ .before .before in
     let c₄ = c₃ .before .before .before in
     let a = c₄ .args in
-    cheaper pointerCost (omega arith) (λ s. by-wrapper (a .way) (a .g) (c₃ .map-storage-class .ensures) s (c₂ .way .given .1)) (c₁ .write-wrapper .ensures)
+    cheaper pointerCost (omega arith) (λ s. by-wrapper (a .form) (a .g) (c₃ .map-storage-class .ensures) s (c₂ .form .given .1)) (c₁ .write-wrapper .ensures)
 
 same-length-5 : tie.Need-same-length-5
 same-length-5 c = search needs
@@ -77,7 +77,7 @@ returns-3 c =
     let c₂ = c₁ .before .before .before .before in
     let c₃ = c₂ .before .before .before .before .before in
     let a = c₃ .args in
-    cheaper pointerCost (omega arith) (λ s. sym (ap (λ (x : Way). pointerBy x (a .g) s) (c₂ .way2 .given .1))) (c₁ .get-type-id2 .ensures)
+    cheaper pointerCost (omega arith) (λ s. sym (ap (λ (x : PointerForm). pointerBy x (a .g) s) (c₂ .form2 .given .1))) (c₁ .get-type-id2 .ensures)
 
 pub write-pointer-spec : {M : Type 1} → statement M
 write-pointer-spec =
@@ -87,9 +87,9 @@ write-pointer-spec =
     enum-told
     cast-t15
     get-type-id-requires
-    enum-known-way
+    enum-known-form
     write-wrapper-requires
-    enum-known-way-2
+    enum-known-form-2
     get-type-id-requires-2
     same-length
     same-length-2

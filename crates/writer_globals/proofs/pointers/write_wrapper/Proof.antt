@@ -4,7 +4,7 @@ use mathlib.Core.Path.{_∙_}
 use native.Mathlib.Omega.{arith}
 use borrow.Author.Needs.{needs}
 use Rattle.type_facts.specs.Facets.{numberOf}
-use Rattle.writer_globals.proofs.Ways.{room-stride, room-find, room-struct, room-id, room-pointer, wrapper}
+use Rattle.writer_globals.proofs.PointerForms.{room-stride, room-find, room-struct, room-id, room-pointer, wrapper}
 use Rattle.writer_globals.proofs.pointers.write_wrapper.Statement.{statement}
 use Rattle.writer_globals.proofs.pointers.write_wrapper.Tie as tie
 

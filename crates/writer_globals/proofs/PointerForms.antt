@@ -1,4 +1,4 @@
--- The wrapper, and the ways to a global's pointer: that what was read is the definition's way, and that what is written by
+-- The wrapper, and the form of a global's pointer: that what was read is the definition's form, and that what is written by
 -- it is the definition's pointer. The definition finds a remap by the fields of a binding, the program by the binding; the
 -- two meet in `sizeFor`.
 use Prim.Native.Nat.{ℕ, suc, _<_}
@@ -16,7 +16,7 @@ use Rattle.definition.specs.Sheet.{TypeEntry, Remap, Global}
 use Rattle.definition.specs.Shapes.{entry, shape, pointer, storageClass}
 use Rattle.definition.specs.State.{State, Got, takeId, annotate, declare}
 use Rattle.definition.specs.Finding.{find}
-use Rattle.definition.specs.Rules.{block, strideMember, innerAt, matrixStride, elementOf, needsWrapper, isBound, bindingBase, remapOf, remappedWay, direct, wrapped, pointerOf}
+use Rattle.definition.specs.Rules.{block, strideMember, innerAt, matrixStride, elementOf, needsWrapper, isBound, bindingBase, remapOf, remappedForm, direct, wrapped, pointerOf}
 use Rattle.definition.proofs.Truth.{pick-for}
 use Rattle.kinds.specs.Numbers.{spaceNumber}
 use Rattle.entries.specs.Globals.{globalOf, boundNumber, groupNumber, bindingNumber}
@@ -35,9 +35,9 @@ use Rattle.writer.specs.Steps.{GotBy, Took, Adds}
 use Rattle.finding.proofs.Prices.{AtMost}
 use Rattle.finding.proofs.Ways.{taken}
 use Rattle.writer_globals.specs.Costs.{wrapperCost}
-use Rattle.writer_globals.specs.declared.pointers.Way.{Way}
-use Rattle.writer_globals.specs.declared.pointers.Way.the-variants.{Direct, Wrapped, Remapped}
-use Rattle.writer_globals.specs.Globals.{Added, wrapIn, pointerBy, sizeFor, wayIn}
+use Rattle.writer_globals.specs.declared.pointers.PointerForm.{PointerForm}
+use Rattle.writer_globals.specs.declared.pointers.PointerForm.the-variants.{Direct, Wrapped, Remapped}
+use Rattle.writer_globals.specs.Globals.{Added, wrapIn, pointerBy, sizeFor, pointerFormIn}
 use Rattle.writer_globals.proofs.Rooms.{_▹_, grown-within, words-left, room-left, tail-still, tail-then}
 use Rattle.writer_globals.proofs.Notes.{low-small}
 
@@ -102,7 +102,7 @@ wrapper t class hc o {w = w} {T = T} {S = S} {n = n} p ex q₁ q₂ q₃ {f = f}
           };
     }
 
--- ---- what is written by the way
+-- ---- what is written, by the form
 
 pub class-low : (s : ℕ) → storageClass s < 256
 class-low s =
@@ -120,17 +120,17 @@ cheaper d m e {r = r} {T₁ = T₁} {S₁ = S₁} p = record {
       rw (← e s) (record { named = g .named; held = g .held });
 }
 
-module _ (u : Way) (g : GlobalVariable) {class : ℕ} (ec : class ≡ storageClass (spaceNumber (g .space))) (s : State) where
+module _ (u : PointerForm) (g : GlobalVariable) {class : ℕ} (ec : class ≡ storageClass (spaceNumber (g .space))) (s : State) where
   pub by-direct : u ≡ Direct → find (shape (pointer (g .ty) class)) s ≡ pointerBy u g s
-  by-direct e = ap (λ (c : ℕ). find (shape (pointer (g .ty) c)) s) ec ∙ sym (ap (λ (x : Way). pointerBy x g s) e)
+  by-direct e = ap (λ (c : ℕ). find (shape (pointer (g .ty) c)) s) ec ∙ sym (ap (λ (x : PointerForm). pointerBy x g s) e)
 
   pub by-wrapper : {d : Number} → u ≡ Wrapped d → wrapIn (numberOf d) (g .ty) class s ≡ pointerBy u g s
-  by-wrapper {d = d} e = ap (λ (c : ℕ). wrapIn (numberOf d) (g .ty) c s) ec ∙ sym (ap (λ (x : Way). pointerBy x g s) e)
+  by-wrapper {d = d} e = ap (λ (c : ℕ). wrapIn (numberOf d) (g .ty) c s) ec ∙ sym (ap (λ (x : PointerForm). pointerBy x g s) e)
 
--- ---- the way
+-- ---- the form
 
--- the way of a global that is not wrapped, by its binding
-unwrapped : (rs : List Remap) (o : Option ℕ) (x : Binding) → pick (eqb (boundNumber x) 1) (remappedWay o (remapOf rs (groupNumber x) (bindingNumber x))) direct ≡ remappedWay o (sizeFor rs x)
+-- the form of the pointer of a global that is not wrapped, by its binding
+unwrapped : (rs : List Remap) (o : Option ℕ) (x : Binding) → pick (eqb (boundNumber x) 1) (remappedForm o (remapOf rs (groupNumber x) (bindingNumber x))) direct ≡ remappedForm o (sizeFor rs x)
 unwrapped rs none Unbound = refl
 unwrapped rs (some b) Unbound = refl
 unwrapped rs o (Bound r) = refl
@@ -139,23 +139,23 @@ module _ (ts : List TypeEntry) (rs : List Remap) (g : GlobalVariable) (b : List 
   abbrev gl : Global
   gl = globalOf b g
 
-  pub is-wrapped : needsWrapper ts gl ≡ true → (d : Number) → numberOf d ≡ matrixStride (elementOf ts (innerAt ts (g .ty))) → pointerBy (Wrapped d) g x ≡ pointerOf (wayIn ts rs gl) ts gl x
+  pub is-wrapped : needsWrapper ts gl ≡ true → (d : Number) → numberOf d ≡ matrixStride (elementOf ts (innerAt ts (g .ty))) → pointerBy (Wrapped d) g x ≡ pointerOf (pointerFormIn ts rs gl) ts gl x
   is-wrapped e d q =
       ap (λ (o : Option ℕ). wrapIn o (g .ty) (storageClass (spaceNumber (g .space))) x) q
-      ∙ sym (ap (λ (c : Bool). pointerOf (pick c wrapped (pick (isBound gl) (remappedWay (bindingBase (innerAt ts (g .ty))) (remapOf rs (gl .group) (gl .binding))) direct)) ts gl x) e)
+      ∙ sym (ap (λ (c : Bool). pointerOf (pick c wrapped (pick (isBound gl) (remappedForm (bindingBase (innerAt ts (g .ty))) (remapOf rs (gl .group) (gl .binding))) direct)) ts gl x) e)
 
   module _ (e : needsWrapper ts gl ≡ false) where
-    other : (o n : Option ℕ) → bindingBase (innerAt ts (g .ty)) ≡ o → sizeFor rs (g .binding) ≡ n → pointerOf (wayIn ts rs gl) ts gl x ≡ pointerOf (remappedWay o n) ts gl x
+    other : (o n : Option ℕ) → bindingBase (innerAt ts (g .ty)) ≡ o → sizeFor rs (g .binding) ≡ n → pointerOf (pointerFormIn ts rs gl) ts gl x ≡ pointerOf (remappedForm o n) ts gl x
     other o n eo en =
         let u = unwrapped rs (bindingBase (innerAt ts (g .ty))) (g .binding) in
-        (λ j. pointerOf (pick (e j) wrapped (u j)) ts gl x) ∙ (λ j. pointerOf (remappedWay (eo j) (en j)) ts gl x)
+        (λ j. pointerOf (pick (e j) wrapped (u j)) ts gl x) ∙ (λ j. pointerOf (remappedForm (eo j) (en j)) ts gl x)
 
-    pub no-array : none ≡ bindingBase (innerAt ts (g .ty)) → pointerBy Direct g x ≡ pointerOf (wayIn ts rs gl) ts gl x
+    pub no-array : none ≡ bindingBase (innerAt ts (g .ty)) → pointerBy Direct g x ≡ pointerOf (pointerFormIn ts rs gl) ts gl x
     no-array eo = sym (other none (sizeFor rs (g .binding)) (sym eo) refl)
 
     module _ {c : ℕ} (eo : some c ≡ bindingBase (innerAt ts (g .ty))) where
-      pub not-remapped : none ≡ sizeFor rs (g .binding) → pointerBy Direct g x ≡ pointerOf (wayIn ts rs gl) ts gl x
+      pub not-remapped : none ≡ sizeFor rs (g .binding) → pointerBy Direct g x ≡ pointerOf (pointerFormIn ts rs gl) ts gl x
       not-remapped en = sym (other (some c) none (sym eo) (sym en))
 
-      pub is-remapped : {n : ℕ} → some n ≡ sizeFor rs (g .binding) → pointerBy (Remapped c n) g x ≡ pointerOf (wayIn ts rs gl) ts gl x
+      pub is-remapped : {n : ℕ} → some n ≡ sizeFor rs (g .binding) → pointerBy (Remapped c n) g x ≡ pointerOf (pointerFormIn ts rs gl) ts gl x
       is-remapped {n = n} en = sym (other (some c) (some n) (sym eo) (sym en))

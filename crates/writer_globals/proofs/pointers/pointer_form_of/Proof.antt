@@ -1,5 +1,5 @@
--- What was read of the types and of the remaps decides which way the definition takes.
--- One way out for each way, and two for the direct one: no binding array, or no remap.
+-- What was read of the types and of the remaps decides which form the definition takes.
+-- One way out for each form, and two for the direct one: no binding array, or no remap.
 use mathlib.Core.Path.{refl, sym, ap, _∙_}
 use mathlib.Core.List.{map}
 use borrow.Author.Needs.{needs}
@@ -7,9 +7,9 @@ use lib.ListN.{take}
 use Rattle.records.specs.Places.{remapFrom, typesFrom}
 use Rattle.entries.specs.Globals.{globalOf}
 use Rattle.type_facts.specs.Facets.{numberOf, indexOf}
-use Rattle.writer_globals.proofs.Ways.{is-wrapped, no-array, not-remapped, is-remapped}
-use Rattle.writer_globals.proofs.pointers.way_of.Statement.{statement}
-use Rattle.writer_globals.proofs.pointers.way_of.Tie as tie
+use Rattle.writer_globals.proofs.PointerForms.{is-wrapped, no-array, not-remapped, is-remapped}
+use Rattle.writer_globals.proofs.pointers.pointer_form_of.Statement.{statement}
+use Rattle.writer_globals.proofs.pointers.pointer_form_of.Tie as tie
 
 cast-ty : tie.Need-cast-ty
 cast-ty c = search needs
@@ -79,8 +79,8 @@ returns-4 c =
     let rs = map (remapFrom (a .s .now)) (take (a .m) (a .remaps .now)) in
     λ b x. is-remapped ts rs (a .g) b x (sym (c₅ .global-needs-wrapper .ensures (globalOf b (a .g)) refl refl) ∙ c₄ .if1 .left) (sym (ap indexOf (c₂ .base .given .1)) ∙ c₃ .binding-base .ensures) (sym (ap numberOf (c .before .size .given .1)) ∙ c₁ .remapped-size .ensures)
 
-pub way-of-spec : {M : Type 1} → statement M
-way-of-spec =
+pub pointer-form-of-spec : {M : Type 1} → statement M
+pointer-form-of-spec =
     tie.close
     (tie.spec
     cast-ty
