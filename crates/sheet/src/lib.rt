@@ -1,4 +1,5 @@
 // A record's own tests, 5 to 12 of document 01 in its order, and what is held of the records that passed them.
+mod bodies;
 pub mod holding;
 mod repeats;
 

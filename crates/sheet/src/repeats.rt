@@ -1,9 +1,11 @@
 // Test 12: a type equal to an earlier one in name and all fields, or a remap of a group and binding already remapped.
 // A record that passed test 8 is its fields, each in its one form, so types are equal if their tags and bodies are.
+use crate::bodies::ends_differ;
+use crate::bodies::same_up_to;
 use records::Counts;
 ghost use mathlib.Core.Path.{_≡_};
 ghost use mathlib.Core.List.{map};
-ghost use Prim.Native.Nat.{_≤_};
+ghost use Prim.Native.Nat.{_≤_, _<_};
 ghost use lib.ListN.{length, take};
 ghost use Rattle.definition.specs.Sheet.{remapFields, entryOf};
 ghost use Rattle.definition.specs.Tests.{Seen, typeRead, remapRead, repeated};
@@ -11,12 +13,39 @@ ghost use Rattle.records.specs.Places.{typeFrom, remapFrom};
 ghost use Rattle.sheet_fields.specs.Fields.{recordOf};
 ghost use Rattle.sheet.specs.Reading.{Looked};
 
-// Whether one of the first n types has tag t and body b. The next entry is taken up at the first byte that differs; types
-// of one tag tend to differ in their last fields, so the bytes are compared from the last to the first.
+const STRUCT: u8 = 23;
+
+// Where the name and the fixed fields of a type end, and the members of a struct begin.
+fn fixed_end(t: u8, b: &[u8]) -> usize
+    ensures { λ r. ⌜ r ≤ length (now (b .entry)) ⌝ }
+{
+    if t != STRUCT {
+        return b.len();
+    }
+    let end = fields::name_end(b, 0) + 5;
+    if end < b.len() { end } else { b.len() }
+}
+
+// Where the member that begins at p ends: behind its type, its offset and its name.
+fn member_end(b: &[u8], p: usize) -> usize
+    requires { ⌜ p < length (now b) ⌝ }
+    ensures { λ r. ⌜ (p < r) × (r ≤ length (now (b .entry))) ⌝ }
+{
+    if b.len() - p <= 6 {
+        return b.len();
+    }
+    let end = fields::name_end(b, p + 6);
+    if end < b.len() { end } else { b.len() }
+}
+
+// Whether one of the first n types has tag t and body b: the search is left at the first that is equal, and a type at the first
+// member that differs. The last bytes, in which most differ, are compared before all else.
 fn type_read(s: &[u8], types: &[u32], n: usize, t: u8, b: &[u8]) -> bool
     requires { ⌜ n ≤ length (now types) ⌝ }
     ensures { λ r. ⌜ r ≡ typeRead (recordOf t (now (b .entry))) (map (typeFrom (now (s .entry))) (take n (now (types .entry)))) ⌝ }
 {
+    let fixed = fixed_end(t, b);
+    let mut read = false;
     let mut i = 0;
     'entries: while i < n {
         let rest = records::rest_at(s, types[i] as usize);
@@ -28,16 +57,24 @@ fn type_read(s: &[u8], types: &[u32], n: usize, t: u8, b: &[u8]) -> bool
         if e.len() != b.len() {
             continue 'entries;
         }
-        let mut j = b.len();
-        while 0 < j {
-            j -= 1;
-            if e[j] != b[j] {
+        if ends_differ(e, b) {
+            continue 'entries;
+        }
+        if !same_up_to(e, b, 0, fixed) {
+            continue 'entries;
+        }
+        let mut p = fixed;
+        while p < b.len() {
+            let next = member_end(b, p);
+            if !same_up_to(e, b, p, next) {
                 continue 'entries;
             }
+            p = next;
         }
-        return true;
+        read = true;
+        break 'entries;
     }
-    false
+    read
 }
 
 // Whether one of the first n remaps has the group and the binding of the body b.
@@ -45,6 +82,7 @@ fn remap_read(s: &[u8], remaps: &[u32], n: usize, b: &[u8]) -> bool
     requires { ⌜ n ≤ length (now remaps) ⌝ }
     ensures { λ r. ⌜ r ≡ remapRead (remapFields (now (b .entry)) .value) (map (remapFrom (now (s .entry))) (take n (now (remaps .entry)))) ⌝ }
 {
+    let mut read = false;
     let mut k = 0;
     'entries: while k < n {
         let e = records::body_of(records::rest_at(s, remaps[k] as usize));
@@ -55,9 +93,10 @@ fn remap_read(s: &[u8], remaps: &[u32], n: usize, b: &[u8]) -> bool
         if fields::u32_at(e, 4) != fields::u32_at(b, 4) {
             continue 'entries;
         }
-        return true;
+        read = true;
+        break 'entries;
     }
-    false
+    read
 }
 
 // Test 12 of a record of tag t and body b.

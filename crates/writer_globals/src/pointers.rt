@@ -100,7 +100,14 @@ fn remapped_size(s: &[u8], remaps: &[u32], m: usize, binding: Binding) -> Number
 }
 
 // The form of a global's pointer, given the first n types and the first m remaps.
-pub fn pointer_form_of(s: &[u8], types: &[u32], n: usize, remaps: &[u32], m: usize, g: GlobalVariable) -> PointerForm
+pub fn pointer_form_of(
+    s: &[u8],
+    types: &[u32],
+    n: usize,
+    remaps: &[u32],
+    m: usize,
+    g: GlobalVariable,
+) -> PointerForm
     requires { ⌜ (n ≤ length (now types)) × (m ≤ length (now remaps)) ⌝ }
     ensures { λ r. ⌜ ((b : List ℕ) (x : State) → pointerBy r g x ≡ pointerOf (pointerFormIn (typesFrom (now (s .entry)) (now (types .entry)) n) (map (remapFrom (now (s .entry))) (take m (now (remaps .entry)))) (globalOf b g)) (typesFrom (now (s .entry)) (now (types .entry)) n) (globalOf b g) x) ⌝ }
 {

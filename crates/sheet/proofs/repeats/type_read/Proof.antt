@@ -1,50 +1,67 @@
--- What is left of the entries answers for all, and what is left of two bodies for the whole of them. A tag, a length or a
--- byte that differs makes an entry another; one whose bytes are all passed is the one.
+-- What is left of the entries answers for all, as long as none was found. A tag, a length, the last bytes or a part that differs
+-- makes an entry another; one that is the same up to its last member is the one.
 use Prim.Native.Nat.{ℕ, _-_, _+_, _≤_}
 use mathlib.Core.List.{List, map}
-use mathlib.Core.Bool.{false}
+use mathlib.Core.Bool.{true, false}
 use mathlib.Core.Path.{_≡_, refl, ap, sym, _∙_}
 use native.Mathlib.Omega.{arith}
 use borrow.Author.Needs.{needs}
+use borrow.Author.Tests.{not-true, not-false}
 use denote.Ref.{now}
 use lib.ListN.{length, getD, take, drop}
 use Rattle.definition.specs.Tests.{typeRead, sameBytes, sameRecord}
-use Rattle.definition.specs.Sheet.{recordAt}
+use Rattle.definition.specs.Sheet.{Record, recordAt}
 use Rattle.records.specs.Places.{typeFrom, recordFrom}
 use Rattle.sheet_fields.specs.Fields.{recordOf}
-use Rattle.sheet.proofs.Earlier.{skip, hit, none-left, types as search-types, other-tag, other-body, same, other-length, byte-differs, byte-same, bytes-start, bytes-end}
+use Rattle.sheet.proofs.Comparing.{other-length, part-differs, whole}
+use Rattle.sheet.proofs.Earlier.{skip, hit, none-left, types as search-types, other-tag, other-body, same}
 use Rattle.sheet.proofs.repeats.type_read.Statement.{statement}
 use Rattle.sheet.proofs.repeats.type_read.Tie as tie
 
 abbrev Inv-loop : tie.InvT-loop
-Inv-loop s types n t b i e j₀ j = (j ≤ length b) × ((length e ≡ length b) × (sameBytes e b ≡ sameBytes (take j e) (take j b)))
+Inv-loop s types n t b fixed read i e p₀ p = (p ≤ length b) × ((length e ≡ length b) × (sameBytes (take p e) (take p b) ≡ true))
 
 abbrev μ-loop : tie.MeasureT-loop
-μ-loop s types n t b i e j₀ j = j
+μ-loop s types n t b fixed read i e p₀ p = length b - p
 
 abbrev Inv-entries : tie.InvT-entries
-Inv-entries s types n t b i₀ i = (i ≤ n) × (typeRead (recordOf t b) (map (typeFrom s) (take n types)) ≡ typeRead (recordOf t b) (map (typeFrom s) (drop i (take n types))))
+Inv-entries s types n t b fixed read₀ i₀ read i = (i ≤ n) × ((read ≡ false) × (typeRead (recordOf t b) (map (typeFrom s) (take n types)) ≡ typeRead (recordOf t b) (map (typeFrom s) (drop i (take n types)))))
 
 abbrev μ-entries : tie.MeasureT-entries
-μ-entries s types n t b i₀ i = n - i
+μ-entries s types n t b fixed read₀ i₀ read i = n - i
+
+-- the sheet, and the record that is looked for
+abbrev sheet : tie.In-entries Inv-loop μ-loop Inv-entries μ-entries → List ℕ
+sheet c = now (c .before .before .before .before .before .before .args .s)
+
+abbrev sought : tie.In-entries Inv-loop μ-loop Inv-entries μ-entries → Record
+sought c = recordOf (c .before .before .before .before .before .before .args .t) (now (c .before .before .before .before .before .before .args .b))
+
+-- the record at the entry's place
+abbrev here : tie.In-entries Inv-loop μ-loop Inv-entries μ-entries → Record
+here c = recordFrom (sheet c) (getD (now (c .before .before .before .before .before .before .args .types)) (c .before .entries .i) 0)
+
+abbrev left : tie.In-entries Inv-loop μ-loop Inv-entries μ-entries → ℕ → List ℕ
+left c i = drop i (take (c .before .before .before .before .before .before .args .n) (now (c .before .before .before .before .before .before .args .types)))
 
 -- another entry is passed over
-skips : (c : tie.In-entries Inv-loop μ-loop Inv-entries μ-entries)
-    → sameRecord (recordFrom (now (c .before .before .before .before .before .args .s)) (getD (now (c .before .before .before .before .before .args .types)) (c .before .entries .i) 0)) (recordOf (c .before .before .before .before .before .args .t) (now (c .before .before .before .before .before .args .b))) ≡ false
-    → typeRead (recordOf (c .before .before .before .before .before .args .t) (now (c .before .before .before .before .before .args .b))) (map (typeFrom (now (c .before .before .before .before .before .args .s))) (take (c .before .before .before .before .before .args .n) (now (c .before .before .before .before .before .args .types))))
-    ≡ typeRead (recordOf (c .before .before .before .before .before .args .t) (now (c .before .before .before .before .before .args .b))) (map (typeFrom (now (c .before .before .before .before .before .args .s))) (drop (c .before .entries .i + 1) (take (c .before .before .before .before .before .args .n) (now (c .before .before .before .before .before .args .types)))))
-skips c e =
-    let a = c .before .before .before .before .before .args in
-    let l = c .before .entries in
-    l .inv .1 ∙ skip (search-types (now (a .s)) (recordOf (a .t) (now (a .b)))) (now (a .types)) (a .n) (l .i) (c .before .before .before .before .before .pre) (c .entries-test .taken) e
+skips : (c : tie.In-entries Inv-loop μ-loop Inv-entries μ-entries) → sameRecord (here c) (sought c) ≡ false
+    → typeRead (sought c) (map (typeFrom (sheet c)) (take (c .before .before .before .before .before .before .args .n) (now (c .before .before .before .before .before .before .args .types)))) ≡ typeRead (sought c) (map (typeFrom (sheet c)) (left c (c .before .entries .i + 1)))
+skips c e = c .before .entries .inv .1 .1 ∙ skip (search-types (sheet c) (sought c)) (now (c .before .before .before .before .before .before .args .types)) (c .before .before .before .before .before .before .args .n) (c .before .entries .i) (c .before .before .before .before .before .before .pre) (c .entries-test .taken) e
 
 -- the body is that of the record at the entry's place
-body-is : (c : tie.After-body-of Inv-loop μ-loop Inv-entries μ-entries)
-    → now (c .body-of .result) ≡ recordFrom (now (c .before .before .before .before .before .before .before .before .before .before .args .s)) (getD (now (c .before .before .before .before .before .before .before .before .before .before .args .types)) (c .before .before .before .before .before .before .entries .i) 0) .body
+body-is : (c : tie.After-body-of Inv-loop μ-loop Inv-entries μ-entries) → now (c .body-of .result) ≡ here (c .before .before .before .before .before) .body
 body-is c = c .body-of .ensures ∙ ap (λ r. recordAt r .body) (c .before .before .before .rest-at .ensures)
 
+-- and with another body the entry is another
+other : (c : tie.After-body-of Inv-loop μ-loop Inv-entries μ-entries) → sameBytes (now (c .body-of .result)) (sought (c .before .before .before .before .before) .body) ≡ false → sameRecord (here (c .before .before .before .before .before)) (sought (c .before .before .before .before .before)) ≡ false
+other c e = other-body _ _ (ap (λ (z : List ℕ). sameBytes z (sought (c .before .before .before .before .before) .body)) (sym (body-is c)) ∙ e)
+
+fixed-end-requires : tie.Need-fixed-end-requires Inv-loop μ-loop Inv-entries μ-entries
+fixed-end-requires c κs = search needs
+
 entries-holds : tie.Need-entries-holds Inv-loop μ-loop Inv-entries μ-entries
-entries-holds c = (search needs, refl)
+entries-holds c = (search needs, (refl, refl))
 
 mul-rest-at : tie.Need-mul-rest-at Inv-loop μ-loop Inv-entries μ-entries
 mul-rest-at c = search needs
@@ -69,7 +86,7 @@ entries-less : tie.Need-entries-less Inv-loop μ-loop Inv-entries μ-entries
 entries-less c = search needs
 
 entries-again : tie.Need-entries-again Inv-loop μ-loop Inv-entries μ-entries
-entries-again c = (search needs, skips (c .before .before .before .before) (other-tag _ _ (λ q. c .if1 .taken (c .before .tag-of .ensures ∙ ap (λ r. recordAt r .tag) (c .before .before .rest-at .ensures) ∙ q))))
+entries-again c = (search needs, (c .before .before .before .before .before .entries .inv .1 .0, skips (c .before .before .before .before) (other-tag _ _ (λ q. c .if1 .taken (c .before .tag-of .ensures ∙ ap (λ r. recordAt r .tag) (c .before .before .rest-at .ensures) ∙ q)))))
 
 body-of-requires : tie.Need-body-of-requires Inv-loop μ-loop Inv-entries μ-entries
 body-of-requires c κs = search needs
@@ -78,50 +95,56 @@ entries-less-2 : tie.Need-entries-less-2 Inv-loop μ-loop Inv-entries μ-entries
 entries-less-2 c = search needs
 
 entries-again-2 : tie.Need-entries-again-2 Inv-loop μ-loop Inv-entries μ-entries
-entries-again-2 c = (search needs, skips (c .before .before .before .before .before .before) (other-body _ _ (other-length _ _ (λ q. c .if2 .taken (ap length (body-is (c .before)) ∙ q)))))
+entries-again-2 c = (search needs, (c .before .before .before .before .before .before .before .entries .inv .1 .0, skips (c .before .before .before .before .before .before) (other (c .before) (other-length _ _ (c .if2 .taken)))))
 
-loop-holds : tie.Need-loop-holds Inv-loop μ-loop Inv-entries μ-entries
-loop-holds c = (search needs, (c .if2 .left, bytes-start _ _ (c .if2 .left)))
-
-sub-j : tie.Need-sub-j Inv-loop μ-loop Inv-entries μ-entries
-sub-j c = search needs
-
-shared-slice-read-if3 : tie.Need-shared-slice-read-if3 Inv-loop μ-loop Inv-entries μ-entries
-shared-slice-read-if3 c = search needs
-
-shared-slice-read-if3-2 : tie.Need-shared-slice-read-if3-2 Inv-loop μ-loop Inv-entries μ-entries
-shared-slice-read-if3-2 c = search needs
+ends-differ-requires : tie.Need-ends-differ-requires Inv-loop μ-loop Inv-entries μ-entries
+ends-differ-requires c κs = search needs
 
 entries-less-3 : tie.Need-entries-less-3 Inv-loop μ-loop Inv-entries μ-entries
 entries-less-3 c = search needs
 
 entries-again-3 : tie.Need-entries-again-3 Inv-loop μ-loop Inv-entries μ-entries
-entries-again-3 c =
-    let b = now (c .before .before .before .before .before .before .before .before .before .before .before .before .before .before .before .before .args .b) in
-    let l = c .before .before .before .before .loop in
-    (search needs, skips (c .before .before .before .before .before .before .before .before .before .before .before) (other-body _ _ (ap (λ (z : List ℕ). sameBytes z b) (sym (body-is (c .before .before .before .before .before .before))) ∙ l .inv .1 .1 ∙ byte-differs (now (c .before .before .before .before .before .before .body-of .result)) b (l .j) (c .before .before .before .loop-test .taken) (omega arith) (omega arith) (c .if3 .taken))))
+entries-again-3 c = (search needs, (c .before .before .before .before .before .before .before .before .before .entries .inv .1 .0, skips (c .before .before .before .before .before .before .before .before) (other (c .before .before .before) (c .before .ends-differ .ensures (c .if3 .taken)))))
+
+same-up-to-requires : tie.Need-same-up-to-requires Inv-loop μ-loop Inv-entries μ-entries
+unfolding sameBytes
+same-up-to-requires c κs = (omega (arith, c .before .before .before .before .before .before .before .before .before .before .fixed-end .ensures, c .before .before .if2 .left), (c .before .before .before .before .before .before .before .before .before .before .fixed-end .ensures, refl))
+
+entries-less-4 : tie.Need-entries-less-4 Inv-loop μ-loop Inv-entries μ-entries
+entries-less-4 c = search needs
+
+entries-again-4 : tie.Need-entries-again-4 Inv-loop μ-loop Inv-entries μ-entries
+entries-again-4 c = (search needs, (c .before .before .before .before .before .before .before .before .before .before .before .entries .inv .1 .0, skips (c .before .before .before .before .before .before .before .before .before .before) (other (c .before .before .before .before .before) (part-differs _ _ (c .before .before .before .before .before .before .before .before .before .before .before .before .fixed-end .result) (sym (c .before .same-up-to .ensures) ∙ not-true _ (c .if4 .taken))))))
+
+loop-holds : tie.Need-loop-holds Inv-loop μ-loop Inv-entries μ-entries
+loop-holds c = (c .before .before .before .before .before .before .before .before .before .before .before .before .fixed-end .ensures, (c .before .before .before .before .if2 .left, sym (c .before .same-up-to .ensures) ∙ not-false _ (c .if4 .left)))
+
+member-end-requires : tie.Need-member-end-requires Inv-loop μ-loop Inv-entries μ-entries
+member-end-requires c κs = search needs
+
+same-up-to-requires-2 : tie.Need-same-up-to-requires-2 Inv-loop μ-loop Inv-entries μ-entries
+same-up-to-requires-2 c κs = (omega (arith, c .member-end .ensures .1, c .before .before .loop .inv .1 .0), (c .member-end .ensures .1, c .before .before .loop .inv .1 .1))
+
+entries-less-5 : tie.Need-entries-less-5 Inv-loop μ-loop Inv-entries μ-entries
+entries-less-5 c = search needs
+
+entries-again-5 : tie.Need-entries-again-5 Inv-loop μ-loop Inv-entries μ-entries
+entries-again-5 c = (search needs, (c .before .before .before .before .before .before .before .before .before .before .before .before .before .before .before .before .entries .inv .1 .0, skips (c .before .before .before .before .before .before .before .before .before .before .before .before .before .before .before) (other (c .before .before .before .before .before .before .before .before .before .before) (part-differs _ _ (c .before .before .member-end .result) (sym (c .before .same-up-to2 .ensures) ∙ not-true _ (c .if5 .taken))))))
 
 loop-less : tie.Need-loop-less Inv-loop μ-loop Inv-entries μ-entries
 loop-less c = search needs
 
 loop-again : tie.Need-loop-again Inv-loop μ-loop Inv-entries μ-entries
-loop-again c =
-    let l = c .before .before .before .before .loop in
-    (search needs, (l .inv .1 .0, l .inv .1 .1 ∙ byte-same (now (c .before .before .before .before .before .before .body-of .result)) (now (c .before .before .before .before .before .before .before .before .before .before .before .before .before .before .before .before .args .b)) (l .j) (c .before .before .before .loop-test .taken) (omega arith) (omega arith) (c .if3 .left)))
+loop-again c = (c .before .before .member-end .ensures .1, (c .before .before .before .before .loop .inv .1 .0, sym (c .before .same-up-to2 .ensures) ∙ not-false _ (c .if5 .left)))
 
 returns : tie.Need-returns Inv-loop μ-loop Inv-entries μ-entries
-returns c =
-    let a = c .before .before .before .before .before .before .before .before .before .before .before .before .before .args in
-    let l = c .before .before .before .before .before .before .before .before .before .entries in
-    let b = now (a .b) in
-    let r = recordOf (a .t) b in
-    sym (l .inv .1 ∙ hit (search-types (now (a .s)) r) (now (a .types)) (a .n) (l .i) (c .before .before .before .before .before .before .before .before .before .before .before .before .before .pre) (c .before .before .before .before .before .before .before .before .entries-test .taken)
-    (same _ r (sym (c .before .before .before .before .before .tag-of .ensures ∙ ap (λ r. recordAt r .tag) (c .before .before .before .before .before .before .rest-at .ensures)) ∙ c .before .before .before .before .if1 .left) (ap (λ (z : List ℕ). sameBytes z b) (sym (body-is (c .before .before .before))) ∙ c .before .loop .inv .1 .1 ∙ bytes-end (now (c .before .before .before .body-of .result)) b (c .before .loop .j) (c .loop-test .left))))
+returns c = c .before .entries .inv .1 .0 ∙ sym (c .before .entries .inv .1 .1 ∙ none-left (search-types (now (c .before .before .before .before .before .before .args .s)) (recordOf (c .before .before .before .before .before .before .args .t) (now (c .before .before .before .before .before .before .args .b)))) (now (c .before .before .before .before .before .before .args .types)) (c .before .before .before .before .before .before .args .n) (c .before .entries .i) (c .before .before .before .before .before .before .pre) (c .entries-test .left))
 
 returns-2 : tie.Need-returns-2 Inv-loop μ-loop Inv-entries μ-entries
-returns-2 c =
-    let a = c .before .before .before .before .before .args in
-    sym (c .before .entries .inv .1 ∙ none-left (search-types (now (a .s)) (recordOf (a .t) (now (a .b)))) (now (a .types)) (a .n) (c .before .entries .i) (c .before .before .before .before .before .pre) (c .entries-test .left))
+returns-2 c = let k = c .before .before .before .before .before .before .before .before .before .before .before .before in
+    sym (c .before .before .before .before .before .before .before .before .before .before .before .before .before .entries .inv .1 .1 ∙ hit (search-types (sheet k) (sought k)) (now (c .before .before .before .before .before .before .before .before .before .before .before .before .before .before .before .before .before .before .args .types)) (c .before .before .before .before .before .before .before .before .before .before .before .before .before .before .before .before .before .before .args .n) (c .before .before .before .before .before .before .before .before .before .before .before .before .before .entries .i) (c .before .before .before .before .before .before .before .before .before .before .before .before .before .before .before .before .before .before .pre) (c .before .before .before .before .before .before .before .before .before .before .before .before .entries-test .taken)
+    (same _ (sought k) (sym (c .before .before .before .before .before .before .before .before .before .tag-of .ensures ∙ ap (λ r. recordAt r .tag) (c .before .before .before .before .before .before .before .before .before .before .rest-at .ensures)) ∙ c .before .before .before .before .before .before .before .before .if1 .left)
+    (ap (λ (z : List ℕ). sameBytes z (sought k .body)) (sym (body-is (c .before .before .before .before .before .before .before))) ∙ sym (whole _ _ (c .before .loop .p) (omega (arith, c .loop-test .left, c .before .loop .inv .1 .0)) (c .loop-test .left)) ∙ c .before .loop .inv .1 .1)))
 
 pub type-read-spec : {M : Type 1} → statement M
 type-read-spec =
@@ -131,6 +154,7 @@ type-read-spec =
     μ-loop
     Inv-entries
     μ-entries
+    fixed-end-requires
     entries-holds
     mul-rest-at
     shared-slice-read-rest-at
@@ -143,12 +167,17 @@ type-read-spec =
     body-of-requires
     entries-less-2
     entries-again-2
-    loop-holds
-    sub-j
-    shared-slice-read-if3
-    shared-slice-read-if3-2
+    ends-differ-requires
     entries-less-3
     entries-again-3
+    same-up-to-requires
+    entries-less-4
+    entries-again-4
+    loop-holds
+    member-end-requires
+    same-up-to-requires-2
+    entries-less-5
+    entries-again-5
     loop-less
     loop-again
     returns
