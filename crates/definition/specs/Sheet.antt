@@ -1,4 +1,6 @@
 -- The sheet ("A house format, added here. Big-endian."): its header, its records and the fields of each tag.
+-- Types, constants and globals bear the Rust's names. Document 01's own terms, which the Rust has not, are marked so where they
+-- are defined: sheet, record, tag, rank and start among them.
 use Prim.Native.Nat.{ℕ, zero, suc, _+_, _*_, _-_, _/_, _%_}
 use mathlib.Core.Bool.{Bool}
 use mathlib.Core.List.{List, [], _∷_}
@@ -76,7 +78,7 @@ handleSpace = 5
 abbrev pub pushConstantSpace : ℕ
 pushConstantSpace = 6
 
--- ---- types (tags 16 to 28), named as the paper names them, the fields in its order
+-- ---- types (tags 16 to 28), named as the paper names them, which are the Rust's names (`TypeInner`), the fields in its order
 
 pub record Member : Type 0 where
   pub type : ℕ
@@ -105,6 +107,7 @@ pub record TypeEntry : Type 0 where
   pub inner : TypeInner
 
 -- ---- constants (tags 64 to 68); a Compose's parts and a Splat's value are constants
+-- Alias is document 01's term: the Rust's `Expression::Constant`. Value is a Literal record, the Rust's `Expression::Literal`.
 
 pub data Expression : Type 0 where
   Value : Literal → Expression
@@ -125,6 +128,7 @@ pub record Global : Type 0 where
   pub binding : ℕ
   pub init : Option ℕ
 
+-- Remap is document 01's term: an entry of the Rust's `binding_map`, whose size is its `binding_array_size`
 pub record Remap : Type 0 where
   pub group : ℕ
   pub binding : ℕ
@@ -132,6 +136,7 @@ pub record Remap : Type 0 where
 
 -- ---- what a record says
 
+-- available is document 01's term (Available): the Rust's `capabilities_available`
 pub data Entry : Type 0 where
   available : List ℕ → Entry
   remap : Remap → Entry

@@ -1,5 +1,5 @@
 -- Tests 13 and 14: the sentences after "Unfit (13):", and "14 a capability is needed that the rules check for availability,
--- and it is not available".
+-- and it is not available". Unfit is document 01's term.
 use Prim.Native.Nat.{ℕ}
 use mathlib.Core.Bool.{Bool, true, false, _&&_, _||_, not}
 use mathlib.Core.List.{List, [], _∷_}

@@ -1,5 +1,6 @@
 -- "A type is zeroable when every part under it is: scalars, atomics, vectors and matrices are, a sized Array or a Struct
 -- when all inside it is." A part stands before the whole (test 11), so the types are decided in their order.
+-- Zeroable is document 01's term.
 use Prim.Native.Nat.{ℕ}
 use mathlib.Core.Bool.{Bool, true, false, _&&_}
 use mathlib.Core.List.{List, [], _∷_, _++_}

@@ -32,6 +32,7 @@ pub struct GlobalVariable {
     pub init: Init,
 }
 
+// Document 01's term: an entry of the Rust's `binding_map`, a `BindingInfo` with its binding.
 pub struct Remap {
     pub group: u32,
     pub binding: u32,

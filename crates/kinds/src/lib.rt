@@ -30,6 +30,7 @@ pub enum ImageDimension {
     Cube,
 }
 
+// The format and the access of a storage image are document 01's numbers; the Rust has an enum and flags for them.
 pub enum ImageClass {
     Sampled { kind: ScalarKind, multi: bool },
     Depth { multi: bool },

@@ -7,12 +7,6 @@ use Rattle.availability.proofs.Laws.{of-value, of-other}
 use Rattle.availability.proofs.checked_capabilities.Statement.{statement}
 use Rattle.availability.proofs.checked_capabilities.Tie as tie
 
-enum-told : tie.Need-enum-told
-enum-told c = search needs
-
-capabilities-of-requires : tie.Need-capabilities-of-requires
-capabilities-of-requires c κs = search needs
-
 returns : tie.Need-returns
 returns c = let g = c .enum-told .given .0 in rw (c .enum-told .given .1) (of-value (g .0) (kindOf (kindNumber (g .1 .0)) (g .1 .1 .0)) (g .1 .1 .1 .0))
 
@@ -21,4 +15,4 @@ returns-2 c = c .capabilities-of .ensures ∙ of-other (c .before .before .args 
 
 pub checked-capabilities-spec : {M : Type 1} → statement M
 checked-capabilities-spec =
-    tie.close (tie.spec enum-told capabilities-of-requires returns returns-2)
+    tie.close (tie.spec (λ c. search needs) (λ c κs. search needs) returns returns-2)

@@ -8,21 +8,6 @@ use Rattle.availability.proofs.is_available.Tie as tie
 returns : tie.Need-returns
 returns c = rw (eq-eqb _ _ (c .if1 .taken))
 
-enum-told : tie.Need-enum-told
-enum-told c = search needs
-
-enum-known-available : tie.Need-enum-known-available
-enum-known-available c = search needs
-
-rest-at-requires : tie.Need-rest-at-requires
-rest-at-requires c κs = search needs
-
-body-of-requires : tie.Need-body-of-requires
-body-of-requires c κs = search needs
-
-is-listed-requires : tie.Need-is-listed-requires
-is-listed-requires c κs = search needs
-
 returns-2 : tie.Need-returns-2
 returns-2 c = rw (c .enum-told .given .1, ne-eqb _ _ (c .before .before .if1 .left))
 
@@ -38,12 +23,5 @@ returns-3 c =
 pub is-available-spec : {M : Type 1} → statement M
 is-available-spec =
     tie.close
-    (tie.spec
-    returns
-    enum-told
-    enum-known-available
-    rest-at-requires
-    body-of-requires
-    is-listed-requires
-    returns-2
-    returns-3)
+    (tie.spec returns (λ c. search needs) (λ c. search needs) (λ c κs. search needs) (λ c κs. search needs) (λ c κs. search needs)
+    returns-2 returns-3)

@@ -23,15 +23,6 @@ returns c =
     let l = c .before .before .before .loop in
     found _ _ (l .inv) (c .before .before .loop-test .taken) (c .if1 .taken ∙ c .before .number-at .ensures)
 
-add-at : tie.Need-add-at Inv-loop μ-loop
-add-at c = search needs
-
-sub-left : tie.Need-sub-left Inv-loop μ-loop
-sub-left c = search needs
-
-loop-less : tie.Need-loop-less Inv-loop μ-loop
-loop-less c = search needs
-
 loop-again : tie.Need-loop-again Inv-loop μ-loop
 loop-again c =
     let l = c .before .before .before .loop in
@@ -43,14 +34,5 @@ returns-2 c = ended _ _ (c .before .loop .inv) (c .loop-test .left)
 pub is-listed-spec : {M : Type 1} → statement M
 is-listed-spec =
     tie.close
-    (tie.spec
-    Inv-loop
-    μ-loop
-    loop-holds
-    number-at-requires
-    returns
-    add-at
-    sub-left
-    loop-less
-    loop-again
-    returns-2)
+    (tie.spec Inv-loop μ-loop loop-holds number-at-requires returns (λ c. search needs) (λ c. search needs) (λ c. search needs)
+    loop-again returns-2)

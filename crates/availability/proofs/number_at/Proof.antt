@@ -9,20 +9,11 @@ use borrow.Author.Needs.{needs}
 use Rattle.availability.proofs.number_at.Statement.{statement}
 use Rattle.availability.proofs.number_at.Tie as tie
 
-shared-slice-read-high : tie.Need-shared-slice-read-high
-shared-slice-read-high c = search needs
-
 cast-high : tie.Need-cast-high
 cast-high c = omega (arith, c .shared-slice-known .given (c .before .args .at), c .shared-slice-known .given (c .before .args .at + 1), c .shared-slice-known .given (c .before .args .at + 2), c .shared-slice-known .given (c .before .args .at + 3))
 
 mul-high : tie.Need-mul-high
 mul-high c = omega (arith, c .shared-slice-known .given (c .before .args .at), c .shared-slice-known .given (c .before .args .at + 1), c .shared-slice-known .given (c .before .args .at + 2), c .shared-slice-known .given (c .before .args .at + 3))
-
-add-high : tie.Need-add-high
-add-high c = search needs
-
-shared-slice-read-high-2 : tie.Need-shared-slice-read-high-2
-shared-slice-read-high-2 c = search needs
 
 cast-high-2 : tie.Need-cast-high-2
 cast-high-2 c = omega (arith, c .before .shared-slice-known .given (c .before .before .args .at), c .before .shared-slice-known .given (c .before .before .args .at + 1), c .before .shared-slice-known .given (c .before .before .args .at + 2), c .before .shared-slice-known .given (c .before .before .args .at + 3))
@@ -30,23 +21,11 @@ cast-high-2 c = omega (arith, c .before .shared-slice-known .given (c .before .b
 add-high-2 : tie.Need-add-high-2
 add-high-2 c = omega (arith, c .before .shared-slice-known .given (c .before .before .args .at), c .before .shared-slice-known .given (c .before .before .args .at + 1), c .before .shared-slice-known .given (c .before .before .args .at + 2), c .before .shared-slice-known .given (c .before .before .args .at + 3))
 
-add-low : tie.Need-add-low
-add-low c = search needs
-
-shared-slice-read-low : tie.Need-shared-slice-read-low
-shared-slice-read-low c = search needs
-
 cast-low : tie.Need-cast-low
 cast-low c = omega (arith, c .before .before .shared-slice-known .given (c .before .before .before .args .at), c .before .before .shared-slice-known .given (c .before .before .before .args .at + 1), c .before .before .shared-slice-known .given (c .before .before .before .args .at + 2), c .before .before .shared-slice-known .given (c .before .before .before .args .at + 3))
 
 mul-low : tie.Need-mul-low
 mul-low c = omega (arith, c .before .before .shared-slice-known .given (c .before .before .before .args .at), c .before .before .shared-slice-known .given (c .before .before .before .args .at + 1), c .before .before .shared-slice-known .given (c .before .before .before .args .at + 2), c .before .before .shared-slice-known .given (c .before .before .before .args .at + 3))
-
-add-low-2 : tie.Need-add-low-2
-add-low-2 c = search needs
-
-shared-slice-read-low-2 : tie.Need-shared-slice-read-low-2
-shared-slice-read-low-2 c = search needs
 
 cast-low-2 : tie.Need-cast-low-2
 cast-low-2 c = omega (arith, c .before .before .before .shared-slice-known .given (c .before .before .before .before .args .at), c .before .before .before .shared-slice-known .given (c .before .before .before .before .args .at + 1), c .before .before .before .shared-slice-known .given (c .before .before .before .before .args .at + 2), c .before .before .before .shared-slice-known .given (c .before .before .before .before .args .at + 3))
@@ -67,22 +46,6 @@ returns c = let a = c .before .before .before .before .args in let e : a .at + 2
 pub number-at-spec : {M : Type 1} → statement M
 number-at-spec =
     tie.close
-    (tie.spec
-    shared-slice-read-high
-    cast-high
-    mul-high
-    add-high
-    shared-slice-read-high-2
-    cast-high-2
-    add-high-2
-    add-low
-    shared-slice-read-low
-    cast-low
-    mul-low
-    add-low-2
-    shared-slice-read-low-2
-    cast-low-2
-    add-low-3
-    mul-result
-    add-result
-    returns)
+    (tie.spec (λ c. search needs) cast-high mul-high (λ c. search needs) (λ c. search needs) cast-high-2 add-high-2
+    (λ c. search needs) (λ c. search needs) cast-low mul-low (λ c. search needs) (λ c. search needs) cast-low-2 add-low-3
+    mul-result add-result returns)

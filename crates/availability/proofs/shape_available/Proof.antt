@@ -9,21 +9,12 @@ use Rattle.availability.proofs.Laws.{in-turn}
 use Rattle.availability.proofs.shape_available.Statement.{statement}
 use Rattle.availability.proofs.shape_available.Tie as tie
 
-checked-capabilities-requires : tie.Need-checked-capabilities-requires
-checked-capabilities-requires c κs = search needs
-
-is-available-requires : tie.Need-is-available-requires
-is-available-requires c κs = search needs
-
 returns : tie.Need-returns
 returns c =
     let a = c .before .before .before .before .args in
     let k = c .before .before .checked-capabilities in
     let first = c .before .is-available in
     in-turn (isAvailable (availableFrom (a .s .now) (a .available))) (k .result) _ false (k .ensures) (sym (first .ensures) ∙ not-true (first .result) (c .if1 .taken))
-
-is-available-requires-2 : tie.Need-is-available-requires-2
-is-available-requires-2 c κs = search needs
 
 returns-2 : tie.Need-returns-2
 returns-2 c =
@@ -35,10 +26,4 @@ returns-2 c =
 
 pub shape-available-spec : {M : Type 1} → statement M
 shape-available-spec =
-    tie.close
-    (tie.spec
-    checked-capabilities-requires
-    is-available-requires
-    returns
-    is-available-requires-2
-    returns-2)
+    tie.close (tie.spec (λ c κs. search needs) (λ c κs. search needs) returns (λ c κs. search needs) returns-2)

@@ -9,19 +9,10 @@ use borrow.Author.Needs.{needs}
 use Rattle.declarations.proofs.check.Statement.{statement}
 use Rattle.declarations.proofs.check.Tie as tie
 
-slice-aggregate-declare : tie.Need-slice-aggregate-declare
-slice-aggregate-declare c = search needs
-
-declare-requires : tie.Need-declare-requires
-declare-requires c κs = search needs
-
-verdict-of-requires : tie.Need-verdict-of-requires
-verdict-of-requires c κs = search needs
-
 returns : tie.Need-returns
 returns c = let s = c .before .before .before .before .before .args .sheet .now in let d = c .before .before .declare in
     subst (λ (v : Verdict). CheckPromise s v) (sym (c .verdict-of .ensures)) (checked s (0 ∷ []) (d .result) (d .last .1 .0) (omega arith) (d .ensures .same))
 
 pub check-spec : {M : Type 1} → statement M
 check-spec =
-    tie.close (tie.spec slice-aggregate-declare declare-requires verdict-of-requires returns)
+    tie.close (tie.spec (λ c. search needs) (λ c κs. search needs) (λ c κs. search needs) returns)

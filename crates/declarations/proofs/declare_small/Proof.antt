@@ -6,27 +6,9 @@ use borrow.Author.Needs.{needs}
 use Rattle.declarations.proofs.declare_small.Statement.{statement}
 use Rattle.declarations.proofs.declare_small.Tie as tie
 
-slice-aggregate-declare-in : tie.Need-slice-aggregate-declare-in
-slice-aggregate-declare-in c = search needs
-
-slice-aggregate-declare-in-2 : tie.Need-slice-aggregate-declare-in-2
-slice-aggregate-declare-in-2 c = search needs
-
 declare-in-requires : tie.Need-declare-in-requires
 declare-in-requires c κs = record { for-bytes = λ h. omega arith; for-records = inr (omega arith); tables = simp length-replicate (omega arith); sections = simp length-replicate (omega arith); few = omega arith }
 
-same-length : tie.Need-same-length
-same-length c = search needs
-
-returns : tie.Need-returns
-returns c = search needs
-
 pub declare-small-spec : {M : Type 1} → statement M
 declare-small-spec =
-    tie.close
-    (tie.spec
-    slice-aggregate-declare-in
-    slice-aggregate-declare-in-2
-    declare-in-requires
-    same-length
-    returns)
+    tie.close (tie.spec (λ c. search needs) (λ c. search needs) declare-in-requires (λ c. search needs) (λ c. search needs))

@@ -4,20 +4,11 @@ use borrow.Author.Needs.{needs}
 use Rattle.declarations.proofs.verdict_of.Statement.{statement}
 use Rattle.declarations.proofs.verdict_of.Tie as tie
 
-enum-told : tie.Need-enum-told
-enum-told c = search needs
-
-enum-known-a : tie.Need-enum-known-a
-enum-known-a c = search needs
-
 returns : tie.Need-returns
 returns c = verdict-16 (c .before .before .before .before .args .a) (c .before .before .a .given .0 .0) (c .before .before .a .given .1) (c .if1 .taken)
-
-returns-2 : tie.Need-returns-2
-returns-2 c = search needs
 
 returns-3 : tie.Need-returns-3
 returns-3 c = verdict-other (c .before .before .before .before .args .a) (c .before .before .a .given .0 .0) (c .before .before .a .given .1) (c .if1 .left)
 
 pub verdict-of-spec : {M : Type 1} → statement M
-verdict-of-spec = tie.close (tie.spec enum-told enum-known-a returns returns-2 returns-3)
+verdict-of-spec = tie.close (tie.spec (λ c. search needs) (λ c. search needs) returns (λ c. search needs) returns-3)

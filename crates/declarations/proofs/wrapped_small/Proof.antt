@@ -6,19 +6,9 @@ use borrow.Author.Needs.{needs}
 use Rattle.declarations.proofs.wrapped_small.Statement.{statement}
 use Rattle.declarations.proofs.wrapped_small.Tie as tie
 
-slice-aggregate-wrapped-in : tie.Need-slice-aggregate-wrapped-in
-slice-aggregate-wrapped-in c = search needs
-
-slice-aggregate-wrapped-in-2 : tie.Need-slice-aggregate-wrapped-in-2
-slice-aggregate-wrapped-in-2 c = search needs
-
 wrapped-in-requires : tie.Need-wrapped-in-requires
 wrapped-in-requires c κs = record { for-bytes = λ h. omega arith; for-records = inr (omega arith); tables = simp length-replicate (omega arith); sections = simp length-replicate (omega arith); few = omega arith }
 
-returns : tie.Need-returns
-returns c = search needs
-
 pub wrapped-small-spec : {M : Type 1} → statement M
 wrapped-small-spec =
-    tie.close
-    (tie.spec slice-aggregate-wrapped-in slice-aggregate-wrapped-in-2 wrapped-in-requires returns)
+    tie.close (tie.spec (λ c. search needs) (λ c. search needs) wrapped-in-requires (λ c. search needs))

@@ -6,12 +6,6 @@ use borrow.Author.Needs.{needs}
 use Rattle.declarations.proofs.wrapping_of.Statement.{statement}
 use Rattle.declarations.proofs.wrapping_of.Tie as tie
 
-enum-known-o : tie.Need-enum-known-o
-enum-known-o c = search needs
-
-enum-known-o-2 : tie.Need-enum-known-o-2
-enum-known-o-2 c = search needs
-
 returns : tie.Need-returns
 returns c = let a = c .before .before .before .before .before .before .before .before .before .args in wraps-15 (a .sheet .now) (a .types .now) (a .globals .now) (a .o) (a .index) (c .before .before .before .before .o2 .given .0 .0) (c .before .before .before .before .o2 .given .0 .1 .0) (c .before .before .before .before .o2 .given .1) (c .if1 .taken)
 
@@ -20,9 +14,6 @@ returns-2 c = let a = c .before .before .before .before .before .before .before 
 
 global-at-requires : tie.Need-global-at-requires
 global-at-requires c κs = let a = c .before .before .before .before .before .before .before .before .before .before .before .args in let d = stood (a .sheet .now) (a .types .now) (a .globals .now) (a .o) (a .index) (c .before .before .before .before .before .before .o2 .given .0 .0) (c .before .before .before .before .before .before .o2 .given .0 .1 .0) (c .before .before .before .before .before .before .o2 .given .1) (c .before .before .before .before .before .before .before .before .before .before .before .pre) in omega (arith, d .in-globals, c .if2 .left)
-
-cast-global-needs-wrapper : tie.Need-cast-global-needs-wrapper
-cast-global-needs-wrapper c = search needs
 
 global-needs-wrapper-requires : tie.Need-global-needs-wrapper-requires
 global-needs-wrapper-requires c κs = let a = c .before .before .before .before .before .before .before .before .before .before .before .before .before .args in stood (a .sheet .now) (a .types .now) (a .globals .now) (a .o) (a .index) (c .before .before .before .before .before .before .before .before .o2 .given .0 .0) (c .before .before .before .before .before .before .before .before .o2 .given .0 .1 .0) (c .before .before .before .before .before .before .before .before .o2 .given .1) (c .before .before .before .before .before .before .before .before .before .before .before .before .before .pre) .in-types
@@ -39,13 +30,5 @@ returns-4 c = let a = c .before .before .before .before .before .before .before 
 pub wrapping-of-spec : {M : Type 1} → statement M
 wrapping-of-spec =
     tie.close
-    (tie.spec
-    enum-known-o
-    enum-known-o-2
-    returns
-    returns-2
-    global-at-requires
-    cast-global-needs-wrapper
-    global-needs-wrapper-requires
-    returns-3
-    returns-4)
+    (tie.spec (λ c. search needs) (λ c. search needs) returns returns-2 global-at-requires (λ c. search needs)
+    global-needs-wrapper-requires returns-3 returns-4)

@@ -5,14 +5,8 @@ use borrow.Author.Needs.{needs}
 use Rattle.exports.proofs.voulkrod_check.Statement.{statement}
 use Rattle.exports.proofs.voulkrod_check.Tie as tie
 
-check-requires : tie.Need-check-requires
-check-requires c κs = search needs
-
-number-of-verdict-requires : tie.Need-number-of-verdict-requires
-number-of-verdict-requires c κs = search needs
-
 returns : tie.Need-returns
 returns c = c .number-of-verdict .ensures ∙ ap verdictNumber (c .before .check .ensures .same)
 
 pub voulkrod-check-spec : {M : Type 1} → statement M
-voulkrod-check-spec = tie.close (tie.spec check-requires number-of-verdict-requires returns)
+voulkrod-check-spec = tie.close (tie.spec (λ c κs. search needs) (λ c κs. search needs) returns)

@@ -5,14 +5,8 @@ use borrow.Author.Needs.{needs}
 use Rattle.exports.proofs.voulkrod_wrapped.Statement.{statement}
 use Rattle.exports.proofs.voulkrod_wrapped.Tie as tie
 
-wrapped-requires : tie.Need-wrapped-requires
-wrapped-requires c κs = search needs
-
-number-of-wrapping-requires : tie.Need-number-of-wrapping-requires
-number-of-wrapping-requires c κs = search needs
-
 returns : tie.Need-returns
 returns c = c .number-of-wrapping .ensures ∙ ap wrappingNumber (c .before .wrapped .ensures .same)
 
 pub voulkrod-wrapped-spec : {M : Type 1} → statement M
-voulkrod-wrapped-spec = tie.close (tie.spec wrapped-requires number-of-wrapping-requires returns)
+voulkrod-wrapped-spec = tie.close (tie.spec (λ c κs. search needs) (λ c κs. search needs) returns)

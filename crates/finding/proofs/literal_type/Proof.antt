@@ -7,24 +7,6 @@ use borrow.Author.Needs.{needs}
 use Rattle.finding.proofs.literal_type.Statement.{statement}
 use Rattle.finding.proofs.literal_type.Tie as tie
 
-form-requires : tie.Need-form-requires
-form-requires c κs = search needs
-
-scalar-type-requires : tie.Need-scalar-type-requires
-scalar-type-requires c κs = search needs
-
-scalar-type-requires-2 : tie.Need-scalar-type-requires-2
-scalar-type-requires-2 c κs = search needs
-
-scalar-type-requires-3 : tie.Need-scalar-type-requires-3
-scalar-type-requires-3 c κs = search needs
-
-scalar-type-requires-4 : tie.Need-scalar-type-requires-4
-scalar-type-requires-4 c κs = search needs
-
-scalar-type-requires-5 : tie.Need-scalar-type-requires-5
-scalar-type-requires-5 c κs = search needs
-
 returns : tie.Need-returns
 returns c = c .scalar-type .ensures ∙ ap (λ (k : Kind). shape (scalar k)) (is-f64 (literalOf (c .before .before .before .args .l)) (sym (c .before .before .form .ensures) ∙ c .before .match .keys1))
 
@@ -43,15 +25,5 @@ returns-5 c = let r = c .before .match .rest in let e = c .before .before .form 
 pub literal-type-spec : {M : Type 1} → statement M
 literal-type-spec =
     tie.close
-    (tie.spec
-    form-requires
-    scalar-type-requires
-    scalar-type-requires-2
-    scalar-type-requires-3
-    scalar-type-requires-4
-    scalar-type-requires-5
-    returns
-    returns-2
-    returns-3
-    returns-4
-    returns-5)
+    (tie.spec (λ c κs. search needs) (λ c κs. search needs) (λ c κs. search needs) (λ c κs. search needs) (λ c κs. search needs)
+    (λ c κs. search needs) returns returns-2 returns-3 returns-4 returns-5)

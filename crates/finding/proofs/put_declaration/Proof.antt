@@ -13,18 +13,6 @@ use borrow.Author.Needs.{needs}
 use Rattle.finding.proofs.put_declaration.Statement.{statement}
 use Rattle.finding.proofs.put_declaration.Tie as tie
 
-capabilities-of-requires : tie.Need-capabilities-of-requires
-capabilities-of-requires c κs = search needs
-
-list-capability-requires : tie.Need-list-capability-requires
-list-capability-requires c κs = search needs
-
-list-capability-requires-2 : tie.Need-list-capability-requires-2
-list-capability-requires-2 c κs = search needs
-
-mul-start : tie.Need-mul-start
-mul-start c = search needs
-
 add-start : tie.Need-add-start
 add-start c = omega (arith, c .before .before .before .before .list-capability2 .ensures .grown, c .before .before .before .before .before .before .before .before .list-capability .ensures .grown, c .before .before .before .before .list-capability2 .kept, c .before .before .before .before .before .before .before .before .list-capability .kept, c .before .before .before .before .before .before .before .before .before .before .before .before .pre .1, c .before .before .before .before .before .before .before .before .before .before .before .before .good, c .before .before .before .before .before .before .before .before .before .before .before .before .fits)
 
@@ -37,21 +25,6 @@ sub-put-shape c = omega (arith, c .before .before .before .before .list-capabili
 part-put-shape-start : tie.Need-part-put-shape-start
 part-put-shape-start c = omega (arith, c .before .before .before .before .list-capability2 .ensures .grown, c .before .before .before .before .before .before .before .before .list-capability .ensures .grown, c .before .before .before .before .list-capability2 .kept, c .before .before .before .before .before .before .before .before .list-capability .kept, c .before .before .before .before .before .before .before .before .before .before .before .before .pre .1, c .before .before .before .before .before .before .before .before .before .before .before .before .good, c .before .before .before .before .before .before .before .before .before .before .before .before .fits)
 
-part-put-shape-end : tie.Need-part-put-shape-end
-part-put-shape-end c = search needs
-
-low-word-requires : tie.Need-low-word-requires
-low-word-requires c κs = search needs
-
-low-word-requires-2 : tie.Need-low-word-requires-2
-low-word-requires-2 c κs = search needs
-
-low-word-requires-3 : tie.Need-low-word-requires-3
-low-word-requires-3 c κs = search needs
-
-put-shape-requires : tie.Need-put-shape-requires
-put-shape-requires c κs = search needs
-
 add-b : tie.Need-add-b
 add-b c = let a = c .before .before .before .before .before .before .before .before .before .before .before .before .before .before .before .before .before .before .before .before .args in
     let x = c .before .before .before .before .before .before .before .before .before .before .before .before .before .before .before .before .list-capability in
@@ -60,9 +33,6 @@ add-b c = let a = c .before .before .before .before .before .before .before .bef
     let i = words (typeOf (shapeOf (a .l)) (c .before .before .before .before .before .before .low-word .result) (c .before .before .before .before .before .low-word2 .result) (c .before .before .before .before .low-word3 .result)) in
     let few = type-few (shapeOf (a .l)) (c .before .before .before .before .before .before .low-word .result) (c .before .before .before .before .before .low-word2 .result) (c .before .before .before .before .low-word3 .result) in
     omega (arith, y .ensures .grown, x .ensures .grown, y .kept, x .kept, c .before .before .before .before .before .before .before .before .before .before .before .before .before .before .before .before .before .before .before .before .pre .1, c .before .before .before .before .before .before .before .before .before .before .before .before .before .before .before .before .before .before .before .before .good, c .before .before .before .before .before .before .before .before .before .before .before .before .before .before .before .before .before .before .before .before .fits, few, adds-count (y .result) (y .last .0) i (4 + longer (shapeOf (a .l))) few declarations (z .last .0) (z .result) (omega (arith, y .ensures .grown, x .ensures .grown, y .kept, x .kept, c .before .before .before .before .before .before .before .before .before .before .before .before .before .before .before .before .before .before .before .before .pre .1)) (z .ensures))
-
-same-length : tie.Need-same-length
-same-length c = search needs
 
 returns : tie.Need-returns
 returns c = let a = c .before .before .before .before .before .before .before .before .before .before .before .before .before .before .before .before .before .before .before .before .args in
@@ -77,20 +47,6 @@ returns c = let a = c .before .before .before .before .before .before .before .b
 pub put-declaration-spec : {M : Type 1} → statement M
 put-declaration-spec =
     tie.close
-    (tie.spec
-    capabilities-of-requires
-    list-capability-requires
-    list-capability-requires-2
-    mul-start
-    add-start
-    mul-put-shape
-    sub-put-shape
-    part-put-shape-start
-    part-put-shape-end
-    low-word-requires
-    low-word-requires-2
-    low-word-requires-3
-    put-shape-requires
-    add-b
-    same-length
-    returns)
+    (tie.spec (λ c κs. search needs) (λ c κs. search needs) (λ c κs. search needs) (λ c. search needs) add-start mul-put-shape
+    sub-put-shape part-put-shape-start (λ c. search needs) (λ c κs. search needs) (λ c κs. search needs) (λ c κs. search needs)
+    (λ c κs. search needs) add-b (λ c. search needs) returns)

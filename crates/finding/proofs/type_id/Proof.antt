@@ -9,18 +9,6 @@ use borrow.Author.Needs.{needs}
 use Rattle.finding.proofs.type_id.Statement.{statement}
 use Rattle.finding.proofs.type_id.Tie as tie
 
-key-requires : tie.Need-key-requires
-key-requires c κs = search needs
-
-find-type-requires : tie.Need-find-type-requires
-find-type-requires c κs = search needs
-
-enum-known-id : tie.Need-enum-known-id
-enum-known-id c = search needs
-
-enum-told : tie.Need-enum-told
-enum-told c = search needs
-
 returns : tie.Need-returns
 returns c = λ S s h. ap (λ (o : Option ℕ). orElse 0 o) (sym (ap soughtOf (c .before .id .given .1)) ∙ c .before .before .before .find-type .ensures (keyOf (c .before .before .before .before .before .before .args .t)) (c .before .before .before .before .key .ensures .1) (c .before .before .before .before .key .ensures .0) S s h)
 
@@ -29,4 +17,4 @@ returns-2 c = λ S s h. ap (λ (o : Option ℕ). orElse 0 o) (sym (ap soughtOf (
 
 pub type-id-spec : {M : Type 1} → statement M
 type-id-spec =
-    tie.close (tie.spec key-requires find-type-requires enum-known-id enum-told returns returns-2)
+    tie.close (tie.spec (λ c κs. search needs) (λ c κs. search needs) (λ c. search needs) (λ c. search needs) returns returns-2)

@@ -5,9 +5,6 @@ use Rattle.kinds.proofs.Fit.{flag, sampled, depth, storage}
 use Rattle.kinds.proofs.class_of.Statement.{statement}
 use Rattle.kinds.proofs.class_of.Tie as tie
 
-kind-of-requires : tie.Need-kind-of-requires
-kind-of-requires c κs = search needs
-
 returns : tie.Need-returns
 returns c = λ h. let z = sampled _ _ _ h (c .before .match .keys1) in (sym (c .before .match .keys1), (c .kind-of .ensures (z .0), flag _ (z .1)))
 
@@ -18,4 +15,4 @@ returns-3 : tie.Need-returns-3
 returns-3 c = λ h. (storage _ _ _ h (c .match .rest .0 .1) (c .match .rest .1), (refl, refl))
 
 pub class-of-spec : {M : Type 1} → statement M
-class-of-spec = tie.close (tie.spec kind-of-requires returns returns-2 returns-3)
+class-of-spec = tie.close (tie.spec (λ c κs. search needs) returns returns-2 returns-3)

@@ -5,14 +5,8 @@ use Rattle.locals.proofs.Classes.{class-small}
 use Rattle.locals.proofs.class_byte.Statement.{statement}
 use Rattle.locals.proofs.class_byte.Tie as tie
 
-map-storage-class-requires : tie.Need-map-storage-class-requires
-map-storage-class-requires c κs = search needs
-
 cast-result : tie.Need-cast-result
 cast-result c = record { fits = omega (arith, c .map-storage-class .ensures, class-small (c .before .args .space)) }
 
-returns : tie.Need-returns
-returns c = search needs
-
 pub class-byte-spec : {M : Type 1} → statement M
-class-byte-spec = tie.close (tie.spec map-storage-class-requires cast-result returns)
+class-byte-spec = tie.close (tie.spec (λ c κs. search needs) cast-result (λ c. search needs))

@@ -6,9 +6,6 @@ use Rattle.locals.proofs.Formats.{code-in, code-out}
 use Rattle.locals.proofs.format_code.Statement.{statement}
 use Rattle.locals.proofs.format_code.Tie as tie
 
-array-read-result : tie.Need-array-read-result
-array-read-result c = search needs
-
 returns : tie.Need-returns
 unfolding codes formats
 returns c = code-in (c .before .args .f) (c .if1 .taken)
@@ -17,4 +14,4 @@ returns-2 : tie.Need-returns-2
 returns-2 c = code-out (c .before .args .f) (c .if1 .left)
 
 pub format-code-spec : {M : Type 1} → statement M
-format-code-spec = tie.close (tie.spec array-read-result returns returns-2)
+format-code-spec = tie.close (tie.spec (λ c. search needs) returns returns-2)

@@ -10,33 +10,6 @@ use Rattle.locals.proofs.Formats.{format-is}
 use Rattle.locals.proofs.image_type.Statement.{statement}
 use Rattle.locals.proofs.image_type.Tie as tie
 
-dim-byte-requires : tie.Need-dim-byte-requires
-dim-byte-requires c κs = search needs
-
-flag-byte-requires : tie.Need-flag-byte-requires
-flag-byte-requires c κs = search needs
-
-enum-known-class : tie.Need-enum-known-class
-enum-known-class c = search needs
-
-flag-byte-requires-2 : tie.Need-flag-byte-requires-2
-flag-byte-requires-2 c κs = search needs
-
-enum-known-class-2 : tie.Need-enum-known-class-2
-enum-known-class-2 c = search needs
-
-flag-byte-requires-3 : tie.Need-flag-byte-requires-3
-flag-byte-requires-3 c κs = search needs
-
-enum-known-class-3 : tie.Need-enum-known-class-3
-enum-known-class-3 c = search needs
-
-format-code-requires : tie.Need-format-code-requires
-format-code-requires c κs = search needs
-
-kind-of-requires : tie.Need-kind-of-requires
-kind-of-requires c κs = search needs
-
 returns : tie.Need-returns
 unfolding imageOf
 returns c = let d = c .before .before .before .before .before .dim-byte .ensures in let a = c .before .before .before .before .flag-byte .ensures in let m = c .flag-byte2 .ensures in
@@ -60,16 +33,5 @@ returns-3 c = let d = c .before .before .before .before .before .before .dim-byt
 pub image-type-spec : {M : Type 1} → statement M
 image-type-spec =
     tie.close
-    (tie.spec
-    dim-byte-requires
-    flag-byte-requires
-    enum-known-class
-    flag-byte-requires-2
-    enum-known-class-2
-    flag-byte-requires-3
-    enum-known-class-3
-    format-code-requires
-    kind-of-requires
-    returns
-    returns-2
-    returns-3)
+    (tie.spec (λ c κs. search needs) (λ c κs. search needs) (λ c. search needs) (λ c κs. search needs) (λ c. search needs)
+    (λ c κs. search needs) (λ c. search needs) (λ c κs. search needs) (λ c κs. search needs) returns returns-2 returns-3)

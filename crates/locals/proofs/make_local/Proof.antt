@@ -7,56 +7,8 @@ use borrow.Author.Needs.{needs}
 use Rattle.locals.proofs.make_local.Statement.{statement}
 use Rattle.locals.proofs.make_local.Tie as tie
 
-enum-known-t : tie.Need-enum-known-t
-enum-known-t c = search needs
-
-enum-known-t-2 : tie.Need-enum-known-t-2
-enum-known-t-2 c = search needs
-
-enum-known-t-3 : tie.Need-enum-known-t-3
-enum-known-t-3 c = search needs
-
-enum-known-t-4 : tie.Need-enum-known-t-4
-enum-known-t-4 c = search needs
-
-enum-known-t-5 : tie.Need-enum-known-t-5
-enum-known-t-5 c = search needs
-
-class-byte-requires : tie.Need-class-byte-requires
-class-byte-requires c κs = search needs
-
-enum-known-t-6 : tie.Need-enum-known-t-6
-enum-known-t-6 c = search needs
-
-vector-size-requires : tie.Need-vector-size-requires
-vector-size-requires c κs = search needs
-
-class-byte-requires-2 : tie.Need-class-byte-requires-2
-class-byte-requires-2 c κs = search needs
-
 enum-told : tie.Need-enum-told
 enum-told c = search needs
-
-enum-told-2 : tie.Need-enum-told-2
-enum-told-2 c = search needs
-
-enum-known-t-7 : tie.Need-enum-known-t-7
-enum-known-t-7 c = search needs
-
-image-type-requires : tie.Need-image-type-requires
-image-type-requires c κs = search needs
-
-enum-told-3 : tie.Need-enum-told-3
-enum-told-3 c = search needs
-
-enum-told-4 : tie.Need-enum-told-4
-enum-told-4 c = search needs
-
-enum-told-5 : tie.Need-enum-told-5
-enum-told-5 c = search needs
-
-enum-told-6 : tie.Need-enum-told-6
-enum-told-6 c = search needs
 
 returns : tie.Need-returns
 returns c = λ b n. rw (c .before .t .given .1)
@@ -100,34 +52,8 @@ returns-13 c = λ b n. rw (c .enum-told6 .given .1)
 pub make-local-spec : {M : Type 1} → statement M
 make-local-spec =
     tie.close
-    (tie.spec
-    enum-known-t
-    enum-known-t-2
-    enum-known-t-3
-    enum-known-t-4
-    enum-known-t-5
-    class-byte-requires
-    enum-known-t-6
-    vector-size-requires
-    class-byte-requires-2
-    enum-told
-    enum-told-2
-    enum-known-t-7
-    image-type-requires
-    enum-told-3
-    enum-told-4
-    enum-told-5
-    enum-told-6
-    returns
-    returns-2
-    returns-3
-    returns-4
-    returns-5
-    returns-6
-    returns-7
-    returns-8
-    returns-9
-    returns-10
-    returns-11
-    returns-12
+    (tie.spec (λ c. search needs) (λ c. search needs) (λ c. search needs) (λ c. search needs) (λ c. search needs)
+    (λ c κs. search needs) (λ c. search needs) (λ c κs. search needs) (λ c κs. search needs) enum-told (λ c. search needs)
+    (λ c. search needs) (λ c κs. search needs) (λ c. search needs) (λ c. search needs) (λ c. search needs) (λ c. search needs)
+    returns returns-2 returns-3 returns-4 returns-5 returns-6 returns-7 returns-8 returns-9 returns-10 returns-11 returns-12
     returns-13)

@@ -6,27 +6,9 @@ use Rattle.definition.specs.Shapes.{kindOf}
 use Rattle.lookup.proofs.kind_capability.Statement.{statement}
 use Rattle.lookup.proofs.kind_capability.Tie as tie
 
-enum-told : tie.Need-enum-told
-enum-told c = search needs
-
-integer-capability-requires : tie.Need-integer-capability-requires
-integer-capability-requires c κs = search needs
-
-enum-told-2 : tie.Need-enum-told-2
-enum-told-2 c = search needs
-
-integer-capability-requires-2 : tie.Need-integer-capability-requires-2
-integer-capability-requires-2 c κs = search needs
-
-enum-told-3 : tie.Need-enum-told-3
-enum-told-3 c = search needs
-
 returns : tie.Need-returns
 unfolding kindOf
 returns c = rw (c .before .enum-told3 .given .1, eq-eqb _ _ (c .if1 .taken))
-
-enum-told-4 : tie.Need-enum-told-4
-enum-told-4 c = search needs
 
 returns-2 : tie.Need-returns-2
 unfolding kindOf
@@ -47,15 +29,5 @@ returns-5 c = rw (c .enum-told4 .given .1)
 pub kind-capability-spec : {M : Type 1} → statement M
 kind-capability-spec =
     tie.close
-    (tie.spec
-    enum-told
-    integer-capability-requires
-    enum-told-2
-    integer-capability-requires-2
-    enum-told-3
-    returns
-    enum-told-4
-    returns-2
-    returns-3
-    returns-4
-    returns-5)
+    (tie.spec (λ c. search needs) (λ c κs. search needs) (λ c. search needs) (λ c κs. search needs) (λ c. search needs) returns
+    (λ c. search needs) returns-2 returns-3 returns-4 returns-5)

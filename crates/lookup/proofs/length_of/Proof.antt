@@ -4,44 +4,8 @@ use borrow.Author.Needs.{needs}
 use Rattle.lookup.proofs.length_of.Statement.{statement}
 use Rattle.lookup.proofs.length_of.Tie as tie
 
-enum-known-l : tie.Need-enum-known-l
-enum-known-l c = search needs
-
 enum-told : tie.Need-enum-told
 enum-told c = search needs
-
-enum-told-2 : tie.Need-enum-told-2
-enum-told-2 c = search needs
-
-enum-told-3 : tie.Need-enum-told-3
-enum-told-3 c = search needs
-
-enum-told-4 : tie.Need-enum-told-4
-enum-told-4 c = search needs
-
-enum-told-5 : tie.Need-enum-told-5
-enum-told-5 c = search needs
-
-enum-told-6 : tie.Need-enum-told-6
-enum-told-6 c = search needs
-
-enum-told-7 : tie.Need-enum-told-7
-enum-told-7 c = search needs
-
-enum-told-8 : tie.Need-enum-told-8
-enum-told-8 c = search needs
-
-enum-told-9 : tie.Need-enum-told-9
-enum-told-9 c = search needs
-
-enum-known-l-2 : tie.Need-enum-known-l-2
-enum-known-l-2 c = search needs
-
-enum-told-10 : tie.Need-enum-told-10
-enum-told-10 c = search needs
-
-enum-told-11 : tie.Need-enum-told-11
-enum-told-11 c = search needs
 
 returns : tie.Need-returns
 returns c = rw (c .before .before .before .before .before .l .given .1, c .before .before .enum-told .given .1, c .enum-told2 .given .1)
@@ -79,28 +43,7 @@ returns-11 c = rw (c .enum-told11 .given .1)
 pub length-of-spec : {M : Type 1} → statement M
 length-of-spec =
     tie.close
-    (tie.spec
-    enum-known-l
-    enum-told
-    enum-told-2
-    enum-told-3
-    enum-told-4
-    enum-told-5
-    enum-told-6
-    enum-told-7
-    enum-told-8
-    enum-told-9
-    enum-known-l-2
-    enum-told-10
-    enum-told-11
-    returns
-    returns-2
-    returns-3
-    returns-4
-    returns-5
-    returns-6
-    returns-7
-    returns-8
-    returns-9
-    returns-10
+    (tie.spec (λ c. search needs) enum-told (λ c. search needs) (λ c. search needs) (λ c. search needs) (λ c. search needs)
+    (λ c. search needs) (λ c. search needs) (λ c. search needs) (λ c. search needs) (λ c. search needs) (λ c. search needs)
+    (λ c. search needs) returns returns-2 returns-3 returns-4 returns-5 returns-6 returns-7 returns-8 returns-9 returns-10
     returns-11)

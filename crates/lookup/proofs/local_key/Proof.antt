@@ -11,65 +11,8 @@ use Rattle.lookup.proofs.Values.{value-small, value-packed}
 use Rattle.lookup.proofs.local_key.Statement.{statement}
 use Rattle.lookup.proofs.local_key.Tie as tie
 
-enum-known-l : tie.Need-enum-known-l
-enum-known-l c = search needs
-
-scalar-code-requires : tie.Need-scalar-code-requires
-scalar-code-requires c κs = search needs
-
-value-key-requires : tie.Need-value-key-requires
-value-key-requires c κs = search needs
-
-enum-known-l-2 : tie.Need-enum-known-l-2
-enum-known-l-2 c = search needs
-
-bytes-key-requires : tie.Need-bytes-key-requires
-bytes-key-requires c κs = search needs
-
-enum-known-l-3 : tie.Need-enum-known-l-3
-enum-known-l-3 c = search needs
-
-cast-base-key : tie.Need-cast-base-key
-cast-base-key c = search needs
-
-base-key-requires : tie.Need-base-key-requires
-base-key-requires c κs = search needs
-
-enum-known-l-4 : tie.Need-enum-known-l-4
-enum-known-l-4 c = search needs
-
-scalar-code-requires-2 : tie.Need-scalar-code-requires-2
-scalar-code-requires-2 c κs = search needs
-
-bytes-key-requires-2 : tie.Need-bytes-key-requires-2
-bytes-key-requires-2 c κs = search needs
-
 enum-told : tie.Need-enum-told
 enum-told c = search needs
-
-enum-known-l-5 : tie.Need-enum-known-l-5
-enum-known-l-5 c = search needs
-
-space-number-requires : tie.Need-space-number-requires
-space-number-requires c κs = search needs
-
-space-access-requires : tie.Need-space-access-requires
-space-access-requires c κs = search needs
-
-base-key-requires-2 : tie.Need-base-key-requires-2
-base-key-requires-2 c κs = search needs
-
-enum-known-l-6 : tie.Need-enum-known-l-6
-enum-known-l-6 c = search needs
-
-base-key-requires-3 : tie.Need-base-key-requires-3
-base-key-requires-3 c κs = search needs
-
-enum-told-2 : tie.Need-enum-told-2
-enum-told-2 c = search needs
-
-enum-told-3 : tie.Need-enum-told-3
-enum-told-3 c = search needs
 
 returns : tie.Need-returns
 returns c = let g = c .before .before .before .l .given .0 in
@@ -105,33 +48,8 @@ returns-9 c = rw (c .enum-told3 .given .1) (refl, tt)
 pub local-key-spec : {M : Type 1} → statement M
 local-key-spec =
     tie.close
-    (tie.spec
-    enum-known-l
-    scalar-code-requires
-    value-key-requires
-    enum-known-l-2
-    bytes-key-requires
-    enum-known-l-3
-    cast-base-key
-    base-key-requires
-    enum-known-l-4
-    scalar-code-requires-2
-    bytes-key-requires-2
-    enum-told
-    enum-known-l-5
-    space-number-requires
-    space-access-requires
-    base-key-requires-2
-    enum-known-l-6
-    base-key-requires-3
-    enum-told-2
-    enum-told-3
-    returns
-    returns-2
-    returns-3
-    returns-4
-    returns-5
-    returns-6
-    returns-7
-    returns-8
-    returns-9)
+    (tie.spec (λ c. search needs) (λ c κs. search needs) (λ c κs. search needs) (λ c. search needs) (λ c κs. search needs)
+    (λ c. search needs) (λ c. search needs) (λ c κs. search needs) (λ c. search needs) (λ c κs. search needs)
+    (λ c κs. search needs) enum-told (λ c. search needs) (λ c κs. search needs) (λ c κs. search needs) (λ c κs. search needs)
+    (λ c. search needs) (λ c κs. search needs) (λ c. search needs) (λ c. search needs) returns returns-2 returns-3 returns-4
+    returns-5 returns-6 returns-7 returns-8 returns-9)

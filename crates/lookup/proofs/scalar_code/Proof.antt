@@ -6,33 +6,6 @@ use Rattle.definition.specs.Shapes.{kindOf}
 use Rattle.lookup.proofs.scalar_code.Statement.{statement}
 use Rattle.lookup.proofs.scalar_code.Tie as tie
 
-enum-told : tie.Need-enum-told
-enum-told c = search needs
-
-mul-result : tie.Need-mul-result
-mul-result c = search needs
-
-enum-told-2 : tie.Need-enum-told-2
-enum-told-2 c = search needs
-
-mul-result-2 : tie.Need-mul-result-2
-mul-result-2 c = search needs
-
-add-result : tie.Need-add-result
-add-result c = search needs
-
-enum-told-3 : tie.Need-enum-told-3
-enum-told-3 c = search needs
-
-mul-result-3 : tie.Need-mul-result-3
-mul-result-3 c = search needs
-
-add-result-2 : tie.Need-add-result-2
-add-result-2 c = search needs
-
-enum-told-4 : tie.Need-enum-told-4
-enum-told-4 c = search needs
-
 returns : tie.Need-returns
 unfolding kindOf
 returns c = (rw (c .enum-told .given .1), omega arith)
@@ -52,17 +25,5 @@ returns-4 c = (rw (c .enum-told4 .given .1), omega arith)
 pub scalar-code-spec : {M : Type 1} → statement M
 scalar-code-spec =
     tie.close
-    (tie.spec
-    enum-told
-    mul-result
-    enum-told-2
-    mul-result-2
-    add-result
-    enum-told-3
-    mul-result-3
-    add-result-2
-    enum-told-4
-    returns
-    returns-2
-    returns-3
-    returns-4)
+    (tie.spec (λ c. search needs) (λ c. search needs) (λ c. search needs) (λ c. search needs) (λ c. search needs)
+    (λ c. search needs) (λ c. search needs) (λ c. search needs) (λ c. search needs) returns returns-2 returns-3 returns-4)

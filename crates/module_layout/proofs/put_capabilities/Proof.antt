@@ -15,21 +15,6 @@ abbrev μ-loop : tie.MeasureT-loop
 loop-holds : tie.Need-loop-holds Inv-loop μ-loop
 loop-holds c = search (needs, listing-start)
 
-mul-put-capability : tie.Need-mul-put-capability Inv-loop μ-loop
-mul-put-capability c = search needs
-
-shared-slice-read-put-capability : tie.Need-shared-slice-read-put-capability Inv-loop μ-loop
-shared-slice-read-put-capability c = search needs
-
-put-capability-requires : tie.Need-put-capability-requires Inv-loop μ-loop
-put-capability-requires c κs = search needs
-
-add-i : tie.Need-add-i Inv-loop μ-loop
-add-i c = search needs
-
-loop-less : tie.Need-loop-less Inv-loop μ-loop
-loop-less c = search needs
-
 loop-again : tie.Need-loop-again Inv-loop μ-loop
 loop-again c =
     let e = c .before .before .before .before .before .before .before .before .before in
@@ -48,15 +33,5 @@ returns c =
 pub put-capabilities-spec : {M : Type 1} → statement M
 put-capabilities-spec =
     tie.close
-    (tie.spec
-    Inv-loop
-    μ-loop
-    loop-holds
-    mul-put-capability
-    shared-slice-read-put-capability
-    put-capability-requires
-    add-i
-    loop-less
-    loop-again
-    same-length
-    returns)
+    (tie.spec Inv-loop μ-loop loop-holds (λ c. search needs) (λ c. search needs) (λ c κs. search needs) (λ c. search needs)
+    (λ c. search needs) loop-again same-length returns)

@@ -4,27 +4,6 @@ use borrow.Author.Needs.{needs}
 use Rattle.module_layout.proofs.put_capability.Statement.{statement}
 use Rattle.module_layout.proofs.put_capability.Tie as tie
 
-mul-capability : tie.Need-mul-capability
-mul-capability c = search needs
-
-sub-capability : tie.Need-sub-capability
-sub-capability c = search needs
-
-part-capability-start : tie.Need-part-capability-start
-part-capability-start c = search needs
-
-part-capability-end : tie.Need-part-capability-end
-part-capability-end c = search needs
-
-capability-requires : tie.Need-capability-requires
-capability-requires c κs = search needs
-
-add-result : tie.Need-add-result
-add-result c = search needs
-
-same-length : tie.Need-same-length
-same-length c = search needs
-
 returns : tie.Need-returns
 returns c =
     let a = c .before .before .before .before .before .args in
@@ -34,12 +13,5 @@ returns c =
 pub put-capability-spec : {M : Type 1} → statement M
 put-capability-spec =
     tie.close
-    (tie.spec
-    mul-capability
-    sub-capability
-    part-capability-start
-    part-capability-end
-    capability-requires
-    add-result
-    same-length
-    returns)
+    (tie.spec (λ c. search needs) (λ c. search needs) (λ c. search needs) (λ c. search needs) (λ c κs. search needs)
+    (λ c. search needs) (λ c. search needs) returns)

@@ -17,17 +17,11 @@ put-front-requires c κs =
     let e = c .before .before .before .before in
     simp (listed (e .args .w) (e .args .sections .now) (e .pre .0 .room)) (omega (arith, e .pre .1))
 
-mul-put-region : tie.Need-mul-put-region
-mul-put-region c = search needs
-
 put-region-requires : tie.Need-put-region-requires
 put-region-requires c κs =
     let e = c .before .before .before .before .before .before .before .before .before in
     let f = c .before .before .before .before .put-front in
     omega (arith, e .pre .0 .room .in-list, e .pre .0 .room .in-names, e .pre .1, f .ensures .next, f .kept .0, listed (e .args .w) (e .args .sections .now) (e .pre .0 .room))
-
-mul-put-region-2 : tie.Need-mul-put-region-2
-mul-put-region-2 c = search needs
 
 put-region-requires-2 : tie.Need-put-region-requires-2
 put-region-requires-2 c κs =
@@ -47,9 +41,6 @@ put-region-requires-3 c κs =
     let h = c .before .before .before .before .put-region2 in
     omega (arith, e .pre .0 .room .in-list, e .pre .0 .room .in-declarations, e .pre .1, f .ensures .next, f .kept .0, g .ensures .next, g .kept .0, h .ensures .next, h .kept .0, listed (e .args .w) (e .args .sections .now) (e .pre .0 .room))
 
-same-length : tie.Need-same-length
-same-length c = search needs
-
 returns : tie.Need-returns
 returns c =
     let e = c .before .before .before .before .before .before .before .before .before .before .before .before .before .before .before .before .before .before .before .before .before .before in
@@ -62,14 +53,5 @@ returns c =
 pub put-module-spec : {M : Type 1} → statement M
 put-module-spec =
     tie.close
-    (tie.spec
-    slice-aggregate-put-front
-    put-front-requires
-    mul-put-region
-    put-region-requires
-    mul-put-region-2
-    put-region-requires-2
-    mul-put-region-3
-    put-region-requires-3
-    same-length
-    returns)
+    (tie.spec slice-aggregate-put-front put-front-requires (λ c. search needs) put-region-requires (λ c. search needs)
+    put-region-requires-2 mul-put-region-3 put-region-requires-3 (λ c. search needs) returns)

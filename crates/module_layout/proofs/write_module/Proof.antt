@@ -11,25 +11,10 @@ returns c =
     let a = c .before .before .before .before .before .args in
     passes (a .w) (a .sections .now) (a .out .now) (omega (arith, c .if1 .taken))
 
-module-count-requires : tie.Need-module-count-requires
-module-count-requires c κs = search needs
-
 returns-2 : tie.Need-returns-2
 returns-2 c =
     let e = c .before .before .before .before .before .before .before in
     short (e .args .w) (e .args .sections .now) (e .args .out .now) (omega (arith, c .before .before .if1 .left)) (e .pre .room) (omega (arith, c .if2 .taken, c .before .module-count .ensures))
-
-add-bound : tie.Need-add-bound
-add-bound c = search needs
-
-cast-bound : tie.Need-cast-bound
-cast-bound c = search needs
-
-put-module-requires : tie.Need-put-module-requires
-put-module-requires c κs = search needs
-
-same-length : tie.Need-same-length
-same-length c = search needs
 
 returns-3 : tie.Need-returns-3
 returns-3 c =
@@ -39,12 +24,5 @@ returns-3 c =
 pub write-module-spec : {M : Type 1} → statement M
 write-module-spec =
     tie.close
-    (tie.spec
-    returns
-    module-count-requires
-    returns-2
-    add-bound
-    cast-bound
-    put-module-requires
-    same-length
-    returns-3)
+    (tie.spec returns (λ c κs. search needs) returns-2 (λ c. search needs) (λ c. search needs) (λ c κs. search needs)
+    (λ c. search needs) returns-3)

@@ -13,15 +13,9 @@ returns-2 : tie.Need-returns-2
 unfolding headerTest
 returns-2 c = simp (above 6 16384 _ (c .if2 .taken))
 
-u8-at-requires : tie.Need-u8-at-requires
-u8-at-requires c κs = search needs
-
 returns-3 : tie.Need-returns-3
 unfolding headerTest
 returns-3 c = rw (inside 6 16384 _ (c .before .before .before .if1 .left) (c .before .before .if2 .left)) (search (stop-ne, go-eq, stop-le, go-lt) depth 9)
-
-u8-at-requires-2 : tie.Need-u8-at-requires-2
-u8-at-requires-2 c κs = search needs
 
 returns-4 : tie.Need-returns-4
 unfolding headerTest
@@ -33,5 +27,4 @@ returns-5 c = rw (inside 6 16384 _ (c .before .before .before .before .before .i
 
 pub header-test-spec : {M : Type 1} → statement M
 header-test-spec =
-    tie.close
-    (tie.spec returns returns-2 u8-at-requires returns-3 u8-at-requires-2 returns-4 returns-5)
+    tie.close (tie.spec returns returns-2 (λ c κs. search needs) returns-3 (λ c κs. search needs) returns-4 returns-5)

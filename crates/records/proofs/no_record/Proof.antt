@@ -11,22 +11,13 @@ returns : tie.Need-returns
 unfolding noRecord
 returns c = simp (lt-leb _ _ (c .if1 .taken))
 
-u16-at-requires : tie.Need-u16-at-requires
-u16-at-requires c κs = search needs
-
-cast-n : tie.Need-cast-n
-cast-n c = search needs
-
 returns-2 : tie.Need-returns-2
 unfolding noRecord
 returns-2 c = simp (le-leb _ _ (c .before .before .if1 .left), ← c .before .u16-at .ensures, c .if2 .taken)
-
-add-result : tie.Need-add-result
-add-result c = search needs
 
 returns-3 : tie.Need-returns-3
 unfolding noRecord
 returns-3 c = let n = c .before .u16-at .result in simp (le-leb _ _ (c .before .before .if1 .left), ← c .before .u16-at .ensures, lt-ltb 0 n (omega arith), not-leb)
 
 pub no-record-spec : {M : Type 1} → statement M
-no-record-spec = tie.close (tie.spec returns u16-at-requires cast-n returns-2 add-result returns-3)
+no-record-spec = tie.close (tie.spec returns (λ c κs. search needs) (λ c. search needs) returns-2 (λ c. search needs) returns-3)

@@ -7,9 +7,6 @@ use Rattle.records.proofs.out_of_order.Tie as tie
 returns : tie.Need-returns
 returns c = λ n k. simp (k .rank, lt-ltb _ _ (c .if1 .taken))
 
-is-there-requires : tie.Need-is-there-requires
-is-there-requires c κs = search needs
-
 returns-2 : tie.Need-returns-2
 returns-2 c = λ n k. simp (k .rank, le-ltb _ _ (c .before .before .if1 .left)) (simp (c .before .if2 .taken, k .available) (c .is-there .ensures))
 
@@ -17,4 +14,4 @@ returns-3 : tie.Need-returns-3
 returns-3 c = λ n k. simp (k .rank, le-ltb _ _ (c .before .if1 .left), ne-eqb _ _ (c .if2 .left))
 
 pub out-of-order-spec : {M : Type 1} → statement M
-out-of-order-spec = tie.close (tie.spec returns is-there-requires returns-2 returns-3)
+out-of-order-spec = tie.close (tie.spec returns (λ c κs. search needs) returns-2 returns-3)

@@ -6,22 +6,13 @@ use Rattle.records.proofs.Chain.{stop, go, stop-not, go-not, go-pos}
 use Rattle.records.proofs.place_test.Statement.{statement}
 use Rattle.records.proofs.place_test.Tie as tie
 
-rank-of-requires : tie.Need-rank-of-requires
-rank-of-requires c κs = search needs
-
 returns : tie.Need-returns
 unfolding placeTest
 returns c = λ n k. simp (← c .before .rank-of .ensures, c .if1 .taken)
 
-out-of-order-requires : tie.Need-out-of-order-requires
-out-of-order-requires c κs = search needs
-
 returns-2 : tie.Need-returns-2
 unfolding placeTest
 returns-2 c = λ n k. rw (← c .before .before .before .rank-of .ensures) (go-pos _ _ _ _ _ refl (c .before .before .if1 .left) (stop-not _ _ _ _ (c .before .out-of-order .ensures n k) (c .if2 .taken)))
-
-has-room-requires : tie.Need-has-room-requires
-has-room-requires c κs = search needs
 
 returns-3 : tie.Need-returns-3
 unfolding placeTest
@@ -34,11 +25,4 @@ returns-4 c = λ n k. rw (← c .before .before .before .before .before .rank-of
 pub place-test-spec : {M : Type 1} → statement M
 place-test-spec =
     tie.close
-    (tie.spec
-    rank-of-requires
-    returns
-    out-of-order-requires
-    returns-2
-    has-room-requires
-    returns-3
-    returns-4)
+    (tie.spec (λ c κs. search needs) returns (λ c κs. search needs) returns-2 (λ c κs. search needs) returns-3 returns-4)

@@ -6,11 +6,8 @@ use Rattle.records.proofs.Places.{rest}
 use Rattle.records.proofs.rest_at.Statement.{statement}
 use Rattle.records.proofs.rest_at.Tie as tie
 
-part-requires : tie.Need-part-requires
-part-requires c κs = search needs
-
 returns : tie.Need-returns
 returns c = let a = c .before .before .args in c .part .ensures ∙ rest (now (a .s)) (a .at)
 
 pub rest-at-spec : {M : Type 1} → statement M
-rest-at-spec = tie.close (tie.spec part-requires returns)
+rest-at-spec = tie.close (tie.spec (λ c κs. search needs) returns)

@@ -4,12 +4,9 @@ use Rattle.definition.specs.Sheet.{recordAt}
 use Rattle.records.proofs.tag_of.Statement.{statement}
 use Rattle.records.proofs.tag_of.Tie as tie
 
-u8-at-requires : tie.Need-u8-at-requires
-u8-at-requires c κs = search needs
-
 returns : tie.Need-returns
 unfolding recordAt
 returns c = c .u8-at .ensures
 
 pub tag-of-spec : {M : Type 1} → statement M
-tag-of-spec = tie.close (tie.spec u8-at-requires returns)
+tag-of-spec = tie.close (tie.spec (λ c κs. search needs) returns)

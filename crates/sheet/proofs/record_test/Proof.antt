@@ -10,21 +10,9 @@ use Rattle.sheet_fields.specs.Fields.{recordOf}
 use Rattle.sheet.proofs.record_test.Statement.{statement}
 use Rattle.sheet.proofs.record_test.Tie as tie
 
-tag-of-requires : tie.Need-tag-of-requires
-tag-of-requires c κs = search needs
-
-place-test-requires : tie.Need-place-test-requires
-place-test-requires c κs = search needs
-
 returns : tie.Need-returns
 unfolding readingTest
 returns c = λ n l. first-stop _ _ _ (c .before .place-test .ensures n (l .counted) ∙ ap (placeTest n) (c .before .before .tag-of .ensures)) (c .if1 .taken)
-
-body-of-requires : tie.Need-body-of-requires
-body-of-requires c κs = search needs
-
-entry-test-requires : tie.Need-entry-test-requires
-entry-test-requires c κs = search needs
 
 returns-2 : tie.Need-returns-2
 unfolding readingTest
@@ -34,10 +22,4 @@ returns-2 c = λ n l. first-go _ _ _ _ (c .before .before .before .place-test .e
 pub record-test-spec : {M : Type 1} → statement M
 record-test-spec =
     tie.close
-    (tie.spec
-    tag-of-requires
-    place-test-requires
-    returns
-    body-of-requires
-    entry-test-requires
-    returns-2)
+    (tie.spec (λ c κs. search needs) (λ c κs. search needs) returns (λ c κs. search needs) (λ c κs. search needs) returns-2)

@@ -5,27 +5,6 @@ use Rattle.definition.specs.Sheet.{availableFields, remapFields, globalFields, 
 use Rattle.sheet_fields.proofs.fields_end.Statement.{statement}
 use Rattle.sheet_fields.proofs.fields_end.Tie as tie
 
-rank-of-requires : tie.Need-rank-of-requires
-rank-of-requires c κs = search needs
-
-mul-result : tie.Need-mul-result
-mul-result c = search needs
-
-name-end-requires : tie.Need-name-end-requires
-name-end-requires c κs = search needs
-
-end-of-requires : tie.Need-end-of-requires
-end-of-requires c κs = search needs
-
-end-of-requires-2 : tie.Need-end-of-requires-2
-end-of-requires-2 c κs = search needs
-
-name-end-requires-2 : tie.Need-name-end-requires-2
-name-end-requires-2 c κs = search needs
-
-add-result : tie.Need-add-result
-add-result c = search needs
-
 returns : tie.Need-returns
 unfolding entryOf availableFields
 returns c = simp (← c .before .rank-of .ensures, c .match .keys1)
@@ -49,16 +28,5 @@ returns-5 c = simp (← c .before .before .rank-of .ensures, ne-eqb _ _ (c .befo
 pub fields-end-spec : {M : Type 1} → statement M
 fields-end-spec =
     tie.close
-    (tie.spec
-    rank-of-requires
-    mul-result
-    name-end-requires
-    end-of-requires
-    end-of-requires-2
-    name-end-requires-2
-    add-result
-    returns
-    returns-2
-    returns-3
-    returns-4
-    returns-5)
+    (tie.spec (λ c κs. search needs) (λ c. search needs) (λ c κs. search needs) (λ c κs. search needs) (λ c κs. search needs)
+    (λ c κs. search needs) (λ c. search needs) returns returns-2 returns-3 returns-4 returns-5)

@@ -4,9 +4,6 @@ use borrow.Author.Needs.{needs}
 use Rattle.sheet_fields.proofs.form_known.Statement.{statement}
 use Rattle.sheet_fields.proofs.form_known.Tie as tie
 
-u8-at-requires : tie.Need-u8-at-requires
-u8-at-requires c κs = search needs
-
 returns : tie.Need-returns
 returns c = simp (c .before .if1 .taken, ← c .u8-at .ensures)
 
@@ -14,4 +11,4 @@ returns-2 : tie.Need-returns-2
 returns-2 c = simp (ne-eqb _ _ (c .if1 .left))
 
 pub form-known-spec : {M : Type 1} → statement M
-form-known-spec = tie.close (tie.spec u8-at-requires returns returns-2)
+form-known-spec = tie.close (tie.spec (λ c κs. search needs) returns returns-2)

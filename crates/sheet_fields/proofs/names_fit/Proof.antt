@@ -6,21 +6,6 @@ use mathlib.Core.Bool.{and-true}
 use Rattle.sheet_fields.proofs.names_fit.Statement.{statement}
 use Rattle.sheet_fields.proofs.names_fit.Tie as tie
 
-rank-of-requires : tie.Need-rank-of-requires
-rank-of-requires c κs = search needs
-
-name-fits-requires : tie.Need-name-fits-requires
-name-fits-requires c κs = search needs
-
-name-end-requires : tie.Need-name-end-requires
-name-end-requires c κs = search needs
-
-names-fit-requires : tie.Need-names-fit-requires
-names-fit-requires c κs = search needs
-
-name-fits-requires-2 : tie.Need-name-fits-requires-2
-name-fits-requires-2 c κs = search needs
-
 returns : tie.Need-returns
 unfolding entryOf
 returns c = simp (← c .before .rank-of .ensures, c .match .keys1, and-true) cc
@@ -48,15 +33,5 @@ returns-6 c = simp (← c .before .before .rank-of .ensures, ne-eqb _ _ (c .befo
 pub names-fit-spec : {M : Type 1} → statement M
 names-fit-spec =
     tie.close
-    (tie.spec
-    rank-of-requires
-    name-fits-requires
-    name-end-requires
-    names-fit-requires
-    name-fits-requires-2
-    returns
-    returns-2
-    returns-3
-    returns-4
-    returns-5
-    returns-6)
+    (tie.spec (λ c κs. search needs) (λ c κs. search needs) (λ c κs. search needs) (λ c κs. search needs) (λ c κs. search needs)
+    returns returns-2 returns-3 returns-4 returns-5 returns-6)

@@ -6,24 +6,6 @@ use mathlib.Core.Bool.{and-true}
 use Rattle.sheet_fields.proofs.read_already.Statement.{statement}
 use Rattle.sheet_fields.proofs.read_already.Tie as tie
 
-rank-of-requires : tie.Need-rank-of-requires
-rank-of-requires c κs = search needs
-
-name-end-requires : tie.Need-name-end-requires
-name-end-requires c κs = search needs
-
-read-already-requires : tie.Need-read-already-requires
-read-already-requires c κs = search needs
-
-read-already-requires-2 : tie.Need-read-already-requires-2
-read-already-requires-2 c κs = search needs
-
-name-end-requires-2 : tie.Need-name-end-requires-2
-name-end-requires-2 c κs = search needs
-
-read-already-requires-3 : tie.Need-read-already-requires-3
-read-already-requires-3 c κs = search needs
-
 returns : tie.Need-returns
 unfolding entryOf
 returns c = simp (← c .before .rank-of .ensures, c .match .keys1, and-true) cc
@@ -47,15 +29,5 @@ returns-5 c = simp (← c .before .before .before .rank-of .ensures, ne-eqb _ _ 
 pub read-already-spec : {M : Type 1} → statement M
 read-already-spec =
     tie.close
-    (tie.spec
-    rank-of-requires
-    name-end-requires
-    read-already-requires
-    read-already-requires-2
-    name-end-requires-2
-    read-already-requires-3
-    returns
-    returns-2
-    returns-3
-    returns-4
-    returns-5)
+    (tie.spec (λ c κs. search needs) (λ c κs. search needs) (λ c κs. search needs) (λ c κs. search needs) (λ c κs. search needs)
+    (λ c κs. search needs) returns returns-2 returns-3 returns-4 returns-5)

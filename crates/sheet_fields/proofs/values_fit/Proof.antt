@@ -5,27 +5,6 @@ use Rattle.definition.specs.Sheet.{remapFields, entryOf}
 use Rattle.sheet_fields.proofs.values_fit.Statement.{statement}
 use Rattle.sheet_fields.proofs.values_fit.Tie as tie
 
-rank-of-requires : tie.Need-rank-of-requires
-rank-of-requires c κs = search needs
-
-u32-at-requires : tie.Need-u32-at-requires
-u32-at-requires c κs = search needs
-
-name-end-requires : tie.Need-name-end-requires
-name-end-requires c κs = search needs
-
-values-fit-requires : tie.Need-values-fit-requires
-values-fit-requires c κs = search needs
-
-values-fit-requires-2 : tie.Need-values-fit-requires-2
-values-fit-requires-2 c κs = search needs
-
-name-end-requires-2 : tie.Need-name-end-requires-2
-name-end-requires-2 c κs = search needs
-
-values-fit-requires-3 : tie.Need-values-fit-requires-3
-values-fit-requires-3 c κs = search needs
-
 returns : tie.Need-returns
 unfolding entryOf
 returns c = simp (← c .before .rank-of .ensures, c .match .keys1) cc
@@ -49,16 +28,5 @@ returns-5 c = simp (← c .before .before .before .rank-of .ensures, ne-eqb _ _ 
 pub values-fit-spec : {M : Type 1} → statement M
 values-fit-spec =
     tie.close
-    (tie.spec
-    rank-of-requires
-    u32-at-requires
-    name-end-requires
-    values-fit-requires
-    values-fit-requires-2
-    name-end-requires-2
-    values-fit-requires-3
-    returns
-    returns-2
-    returns-3
-    returns-4
-    returns-5)
+    (tie.spec (λ c κs. search needs) (λ c κs. search needs) (λ c κs. search needs) (λ c κs. search needs) (λ c κs. search needs)
+    (λ c κs. search needs) (λ c κs. search needs) returns returns-2 returns-3 returns-4 returns-5)

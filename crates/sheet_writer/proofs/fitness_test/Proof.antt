@@ -7,12 +7,6 @@ use borrow.Author.Needs.{needs}
 use Rattle.sheet_writer.proofs.fitness_test.Statement.{statement}
 use Rattle.sheet_writer.proofs.fitness_test.Tie as tie
 
-tag-of-requires : tie.Need-tag-of-requires
-tag-of-requires c κs = search needs
-
-rank-of-requires : tie.Need-rank-of-requires
-rank-of-requires c κs = search needs
-
 type-test-requires : tie.Need-type-test-requires
 type-test-requires c κs = let a = c .before .before .before .before .before .before .before .before .before .args in let e = ap tagRank (sym (c .before .before .tag-of .ensures)) ∙ sym (c .before .rank-of .ensures) ∙ c .match .keys1 in
     type-tested (now (a .s)) (now (a .remaps)) (now (a .types)) (a .k) (now (a .rest)) (c .before .before .before .before .before .before .before .before .before .pre .0) e .values
@@ -21,29 +15,17 @@ constant-fits-requires : tie.Need-constant-fits-requires
 constant-fits-requires c κs = let a = c .before .before .before .before .before .before .before .before .before .before .args in let e = ap tagRank (sym (c .before .before .before .tag-of .ensures)) ∙ sym (c .before .before .rank-of .ensures) ∙ c .before .match .keys2 in
     (c .before .before .before .before .before .before .before .before .before .before .pre .1 .0, (constant-tested (now (a .s)) (now (a .remaps)) (now (a .types)) (a .k) (now (a .rest)) (c .before .before .before .before .before .before .before .before .before .before .pre .0) e (c .before .before .before .before .before .before .before .before .before .before .pre .1 .1 .0), (c .before .before .before .before .before .before .before .before .before .before .pre .1 .1 .1 .0, c .before .before .before .before .before .before .before .before .before .before .pre .1 .1 .1 .1)))
 
-unfit-requires : tie.Need-unfit-requires
-unfit-requires c κs = search needs
-
 global-fits-requires : tie.Need-global-fits-requires
 global-fits-requires c κs = let a = c .before .before .before .before .before .before .before .before .before .before .args in let e = ap tagRank (sym (c .before .before .before .tag-of .ensures)) ∙ sym (c .before .before .rank-of .ensures) ∙ c .before .match .keys3 in
     (c .before .before .before .before .before .before .before .before .before .before .pre .1 .0, global-tested (now (a .s)) (now (a .remaps)) (now (a .types)) (a .k) (now (a .rest)) (c .before .before .before .before .before .before .before .before .before .before .pre .0) e, c .before .before .before .before .before .before .before .before .before .before .pre .1 .1 .1 .0, c .before .before .before .before .before .before .before .before .before .before .pre .1 .1 .1 .1)
-
-unfit-requires-2 : tie.Need-unfit-requires-2
-unfit-requires-2 c κs = search needs
 
 returns : tie.Need-returns
 returns c = let a = c .before .before .before .before .before .before .before .before .before .before .args in let e = ap tagRank (sym (c .before .before .before .tag-of .ensures)) ∙ sym (c .before .before .rank-of .ensures) ∙ c .before .match .keys1 in
     (type-fitness (now (a .s)) (now (a .remaps)) (now (a .types)) (a .k) (now (a .rest)) (c .before .before .before .before .before .before .before .before .before .before .pre .0) (a .w) (now (a .tables)) e (c .type-test .result) (c .type-test .ensures), c .before .before .before .before .before .before .before .before .before .before .pre .1 .1 .1 .1)
 
-same-length : tie.Need-same-length
-same-length c = search needs
-
 returns-2 : tie.Need-returns-2
 returns-2 c = let a = c .before .before .before .before .before .before .before .before .before .before .before .before .before .before .args in let e = ap tagRank (sym (c .before .before .before .before .before .before .before .tag-of .ensures)) ∙ sym (c .before .before .before .before .before .before .rank-of .ensures) ∙ c .before .before .before .before .before .match .keys2 in
     (constant-fitness (now (a .s)) (now (a .remaps)) (now (a .types)) (a .k) (now (a .rest)) (c .before .before .before .before .before .before .before .before .before .before .before .before .before .before .pre .0) (a .w) (now (a .tables)) e (c .unfit .result) (c .before .before .before .constant-fits .result) (c .unfit .ensures) (c .before .before .before .constant-fits .ensures .0), c .before .before .before .constant-fits .ensures .1)
-
-same-length-2 : tie.Need-same-length-2
-same-length-2 c = search needs
 
 returns-3 : tie.Need-returns-3
 returns-3 c = let a = c .before .before .before .before .before .before .before .before .before .before .before .before .before .before .args in let e = ap tagRank (sym (c .before .before .before .before .before .before .before .tag-of .ensures)) ∙ sym (c .before .before .before .before .before .before .rank-of .ensures) ∙ c .before .before .before .before .before .match .keys3 in
@@ -56,17 +38,5 @@ returns-4 c = let a = c .before .before .before .before .before .before .before 
 pub fitness-test-spec : {M : Type 1} → statement M
 fitness-test-spec =
     tie.close
-    (tie.spec
-    tag-of-requires
-    rank-of-requires
-    type-test-requires
-    constant-fits-requires
-    unfit-requires
-    global-fits-requires
-    unfit-requires-2
-    returns
-    same-length
-    returns-2
-    same-length-2
-    returns-3
-    returns-4)
+    (tie.spec (λ c κs. search needs) (λ c κs. search needs) type-test-requires constant-fits-requires (λ c κs. search needs)
+    global-fits-requires (λ c κs. search needs) returns (λ c. search needs) returns-2 (λ c. search needs) returns-3 returns-4)

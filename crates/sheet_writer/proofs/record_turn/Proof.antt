@@ -6,9 +6,6 @@ use borrow.Author.Needs.{needs}
 use Rattle.sheet_writer.proofs.record_turn.Statement.{statement}
 use Rattle.sheet_writer.proofs.record_turn.Tie as tie
 
-record-test-requires : tie.Need-record-test-requires
-record-test-requires c κs = search needs
-
 returns : tie.Need-returns
 returns c = let a = c .before .before .before .before .before .before .before .before .before .args in let r = c .before .record-test in
     record { memo = c .before .before .before .before .before .before .before .before .before .pre .memo; told = read-first (now (a .s)) (now (a .remaps)) (now (a .types)) (a .k) (now (a .rest)) (a .w) (a .tables .now) (a .sections .now) (r .result) (r .ensures) (c .if1 .taken); written = λ z. absurd (c .if1 .taken z) }
@@ -16,12 +13,6 @@ returns c = let a = c .before .before .before .before .before .before .before .b
 fitness-test-requires : tie.Need-fitness-test-requires
 fitness-test-requires c κs = let r = c .before .before .before .record-test in
     (record { seen = c .before .before .before .before .before .before .before .before .before .before .before .pre .seen; before = c .before .before .before .before .before .before .before .before .before .before .before .pre .before; tested = sym (r .ensures (c .before .before .before .before .before .before .before .before .before .before .before .pre .seen) (c .before .before .before .before .before .before .before .before .before .before .before .pre .before .looked)) ∙ c .before .before .if1 .left }, (c .before .before .before .before .before .before .before .before .before .before .before .pre .types, (c .before .before .before .before .before .before .before .before .before .before .before .pre .small, (c .before .before .before .before .before .before .before .before .before .before .before .pre .no-room .rows, c .before .before .before .before .before .before .before .before .before .before .before .pre .memo))))
-
-same-length : tie.Need-same-length
-same-length c = search needs
-
-same-length-2 : tie.Need-same-length-2
-same-length-2 c = search needs
 
 returns-2 : tie.Need-returns-2
 returns-2 c = let a = c .before .before .before .before .before .before .before .before .before .before .before .before .before .before .before .args in let r = c .before .before .before .before .before .before .before .record-test in let f = c .before .before .before .fitness-test in
@@ -32,15 +23,6 @@ write-entry-requires c κs = let r = c .before .before .before .before .before .
     let z = sym (r .ensures (c .before .before .before .before .before .before .before .before .before .before .before .before .before .before .before .before .before .pre .seen) (c .before .before .before .before .before .before .before .before .before .before .before .before .before .before .before .before .before .pre .before .looked)) ∙ c .before .before .before .before .before .before .before .before .if1 .left in
     (record { seen = c .before .before .before .before .before .before .before .before .before .before .before .before .before .before .before .before .before .pre .seen; before = c .before .before .before .before .before .before .before .before .before .before .before .before .before .before .before .before .before .pre .before; tested = z }, (c .before .before .before .before .before .before .before .before .before .before .before .before .before .before .before .before .before .pre .remaps, (c .before .before .before .before .before .before .before .before .before .before .before .before .before .before .before .before .before .pre .types, (c .before .before .before .before .before .before .before .before .before .before .before .before .before .before .before .before .before .pre .few, (c .before .before .before .before .before .before .before .before .before .before .before .before .before .before .before .before .before .pre .small, c .before .before .before .before .before .before .before .before .before .before .before .before .before .before .before .before .before .pre .room z)))))
 
-same-length-3 : tie.Need-same-length-3
-same-length-3 c = search needs
-
-same-length-4 : tie.Need-same-length-4
-same-length-4 c = search needs
-
-same-length-5 : tie.Need-same-length-5
-same-length-5 c = search needs
-
 returns-3 : tie.Need-returns-3
 returns-3 c = let a = c .before .before .before .before .before .before .before .before .before .before .before .before .before .before .before .before .before .before .before .before .before .before .args in let r = c .before .before .before .before .before .before .before .before .before .before .before .before .before .before .record-test in let f = c .before .before .before .before .before .before .before .before .before .before .fitness-test in let v = c .before .before .before .before .write-entry in
     record { memo = f .ensures .1; told = λ n b x h. sym (c .before .before .before .before .before .before .before .if2 .left) ∙ then-fits (now (a .s)) (now (a .remaps)) (now (a .types)) (a .k) (now (a .rest)) (a .w) (a .tables .now) (a .sections .now) (r .result) (f .result) (r .ensures) (c .before .before .before .before .before .before .before .before .before .before .before .before .before .if1 .left) (f .ensures .0) n b x h; written = λ z. v .ensures }
@@ -48,15 +30,5 @@ returns-3 c = let a = c .before .before .before .before .before .before .before 
 pub record-turn-spec : {M : Type 1} → statement M
 record-turn-spec =
     tie.close
-    (tie.spec
-    record-test-requires
-    returns
-    fitness-test-requires
-    same-length
-    same-length-2
-    returns-2
-    write-entry-requires
-    same-length-3
-    same-length-4
-    same-length-5
-    returns-3)
+    (tie.spec (λ c κs. search needs) returns fitness-test-requires (λ c. search needs) (λ c. search needs) returns-2
+    write-entry-requires (λ c. search needs) (λ c. search needs) (λ c. search needs) returns-3)

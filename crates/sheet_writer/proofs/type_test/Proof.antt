@@ -7,18 +7,6 @@ use borrow.Author.Needs.{needs}
 use Rattle.sheet_writer.proofs.type_test.Statement.{statement}
 use Rattle.sheet_writer.proofs.type_test.Tie as tie
 
-tag-of-requires : tie.Need-tag-of-requires
-tag-of-requires c κs = search needs
-
-body-of-requires : tie.Need-body-of-requires
-body-of-requires c κs = search needs
-
-inner-of-requires : tie.Need-inner-of-requires
-inner-of-requires c κs = search needs
-
-type-available-requires : tie.Need-type-available-requires
-type-available-requires c κs = search needs
-
 returns : tie.Need-returns
 returns c = let a = c .before .before .before .before .before .before .before .args in stop _ _ 14 0 (type-told (now (a .s)) (a .available) (now (a .rest)) (c .before .before .before .before .tag-of .result) (now (c .before .before .before .body-of .result)) (c .before .before .inner-of .result) (c .before .type-available .result) (c .before .before .before .before .tag-of .ensures) (c .before .before .before .body-of .ensures) (c .before .before .inner-of .ensures) (c .before .type-available .ensures) (c .before .before .before .before .before .before .before .pre)) (c .if1 .taken)
 
@@ -28,10 +16,4 @@ returns-2 c = let a = c .before .before .before .before .before .before .before 
 pub type-test-spec : {M : Type 1} → statement M
 type-test-spec =
     tie.close
-    (tie.spec
-    tag-of-requires
-    body-of-requires
-    inner-of-requires
-    type-available-requires
-    returns
-    returns-2)
+    (tie.spec (λ c κs. search needs) (λ c κs. search needs) (λ c κs. search needs) (λ c κs. search needs) returns returns-2)

@@ -15,12 +15,6 @@ use borrow.Author.Needs.{needs}
 use Rattle.sheet_writer.proofs.write_entry.Statement.{statement}
 use Rattle.sheet_writer.proofs.write_entry.Tie as tie
 
-tag-of-requires : tie.Need-tag-of-requires
-tag-of-requires c κs = search needs
-
-rank-of-requires : tie.Need-rank-of-requires
-rank-of-requires c κs = search needs
-
 write-type-declaration-arena-requires : tie.Need-write-type-declaration-arena-requires
 write-type-declaration-arena-requires c κs = let a = c .before .before .before .before .before .before .before .before .before .before .before .args in let e = ap tagRank (sym (c .before .before .before .before .tag-of .ensures)) ∙ sym (c .before .before .before .rank-of .ensures) ∙ c .before .before .match .keys1 in
     (c .before .before .before .before .before .before .before .before .before .before .before .pre .1 .1 .0, (omega (arith, c .before .before .before .before .before .before .before .before .before .before .before .pre .1 .1 .1 .0), (type-tested (now (a .s)) (now (a .remaps)) (now (a .types)) (a .k) (now (a .rest)) (c .before .before .before .before .before .before .before .before .before .before .before .pre .0) e, subst (λ (j : ℕ). Room (entryCost j (length (recordAt (now (a .rest)) .body) + 3)) (a .w) (a .tables .now) (a .sections .now)) e (c .before .before .before .before .before .before .before .before .before .before .before .pre .1 .1 .1 .1 .1))))
@@ -33,31 +27,13 @@ write-global-requires : tie.Need-write-global-requires
 write-global-requires c κs = let a = c .before .before .before .before .before .before .before .before .before .before .before .args in let e = ap tagRank (sym (c .before .before .before .before .tag-of .ensures)) ∙ sym (c .before .before .before .rank-of .ensures) ∙ c .before .before .match .keys3 in
     (c .before .before .before .before .before .before .before .before .before .before .before .pre .1 .1 .0, c .before .before .before .before .before .before .before .before .before .before .before .pre .1 .0, global-tested (now (a .s)) (now (a .remaps)) (now (a .types)) (a .k) (now (a .rest)) (c .before .before .before .before .before .before .before .before .before .before .before .pre .0) e, subst (λ (j : ℕ). Room (entryCost j (length (recordAt (now (a .rest)) .body) + 3)) (a .w) (a .tables .now) (a .sections .now)) e (c .before .before .before .before .before .before .before .before .before .before .before .pre .1 .1 .1 .1 .1))
 
-same-length : tie.Need-same-length
-same-length c = search needs
-
-same-length-2 : tie.Need-same-length-2
-same-length-2 c = search needs
-
 returns : tie.Need-returns
 returns c = let a = c .before .before .before .before .before .before .before .before .before .before .before .before .before .before .before .before .args in let e = ap tagRank (sym (c .before .before .before .before .before .before .before .before .before .tag-of .ensures)) ∙ sym (c .before .before .before .before .before .before .before .before .rank-of .ensures) ∙ c .before .before .before .before .before .before .before .match .keys1 in let t = c .before .before .before .before .write-type-declaration-arena in
     type-written (now (a .s)) (now (a .remaps)) (now (a .types)) (a .k) (now (a .rest)) (c .before .before .before .before .before .before .before .before .before .before .before .before .before .before .before .before .pre .0) (a .flags) (a .w) (a .tables .now) (a .sections .now) (t .result) (t .last .0) (t .last .1 .0) e _ refl (t .ensures)
 
-same-length-3 : tie.Need-same-length-3
-same-length-3 c = search needs
-
-same-length-4 : tie.Need-same-length-4
-same-length-4 c = search needs
-
 returns-2 : tie.Need-returns-2
 returns-2 c = let a = c .before .before .before .before .before .before .before .before .before .before .before .before .before .before .before .before .args in let e = ap tagRank (sym (c .before .before .before .before .before .before .before .before .before .tag-of .ensures)) ∙ sym (c .before .before .before .before .before .before .before .before .rank-of .ensures) ∙ c .before .before .before .before .before .before .before .match .keys2 in let t = c .before .before .before .before .write-constant in
     constant-written (now (a .s)) (now (a .remaps)) (now (a .types)) (a .k) (now (a .rest)) (c .before .before .before .before .before .before .before .before .before .before .before .before .before .before .before .before .pre .0) (a .flags) (a .w) (a .tables .now) (a .sections .now) (t .result) (t .last .0) (t .last .1 .0) e (t .ensures)
-
-same-length-5 : tie.Need-same-length-5
-same-length-5 c = search needs
-
-same-length-6 : tie.Need-same-length-6
-same-length-6 c = search needs
 
 returns-3 : tie.Need-returns-3
 returns-3 c = let a = c .before .before .before .before .before .before .before .before .before .before .before .before .before .before .before .before .args in let e = ap tagRank (sym (c .before .before .before .before .before .before .before .before .before .tag-of .ensures)) ∙ sym (c .before .before .before .before .before .before .before .before .rank-of .ensures) ∙ c .before .before .before .before .before .before .before .match .keys3 in let t = c .before .before .before .before .write-global in
@@ -70,19 +46,6 @@ returns-4 c = let a = c .before .before .before .before .before .before .before 
 pub write-entry-spec : {M : Type 1} → statement M
 write-entry-spec =
     tie.close
-    (tie.spec
-    tag-of-requires
-    rank-of-requires
-    write-type-declaration-arena-requires
-    write-constant-requires
-    write-global-requires
-    same-length
-    same-length-2
-    returns
-    same-length-3
-    same-length-4
-    returns-2
-    same-length-5
-    same-length-6
-    returns-3
-    returns-4)
+    (tie.spec (λ c κs. search needs) (λ c κs. search needs) write-type-declaration-arena-requires write-constant-requires
+    write-global-requires (λ c. search needs) (λ c. search needs) returns (λ c. search needs) (λ c. search needs) returns-2
+    (λ c. search needs) (λ c. search needs) returns-3 returns-4)

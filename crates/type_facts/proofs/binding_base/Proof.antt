@@ -8,16 +8,10 @@ use Rattle.type_facts.specs.Facets.{baseIn, indexOf}
 use Rattle.type_facts.proofs.binding_base.Statement.{statement}
 use Rattle.type_facts.proofs.binding_base.Tie as tie
 
-facet-at-requires : tie.Need-facet-at-requires
-facet-at-requires c κs = search needs
-
-base-in-requires : tie.Need-base-in-requires
-base-in-requires c κs = search needs
-
 returns : tie.Need-returns
 returns c =
     let a = c .before .before .before .before .args in
     ap indexOf (c .base-in .ensures ∙ ap baseIn (c .before .facet-at .ensures)) ∙ sym (base (innerAt (typesFrom (a .s .now) (a .types .now) (a .n)) (a .i)))
 
 pub binding-base-spec : {M : Type 1} → statement M
-binding-base-spec = tie.close (tie.spec facet-at-requires base-in-requires returns)
+binding-base-spec = tie.close (tie.spec (λ c κs. search needs) (λ c κs. search needs) returns)

@@ -8,30 +8,6 @@ use Rattle.type_facts.specs.Facets.{strideIn, elementIn, numberOf, index
 use Rattle.type_facts.proofs.element_stride.Statement.{statement}
 use Rattle.type_facts.proofs.element_stride.Tie as tie
 
-facet-at-requires : tie.Need-facet-at-requires
-facet-at-requires c κs = search needs
-
-element-in-requires : tie.Need-element-in-requires
-element-in-requires c κs = search needs
-
-enum-told : tie.Need-enum-told
-enum-told c = search needs
-
-stride-in-requires : tie.Need-stride-in-requires
-stride-in-requires c κs = search needs
-
-enum-known-b : tie.Need-enum-known-b
-enum-known-b c = search needs
-
-cast-facet-at : tie.Need-cast-facet-at
-cast-facet-at c = search needs
-
-facet-at-requires-2 : tie.Need-facet-at-requires-2
-facet-at-requires-2 c κs = search needs
-
-stride-in-requires-2 : tie.Need-stride-in-requires-2
-stride-in-requires-2 c κs = search needs
-
 returns : tie.Need-returns
 returns c = let a = c .before .before .before .before .before .before .before .args in
     let ts = typesFrom (a .s .now) (a .types .now) (a .n) in
@@ -49,14 +25,5 @@ returns-2 c = let a = c .before .before .before .before .before .before .before 
 pub element-stride-spec : {M : Type 1} → statement M
 element-stride-spec =
     tie.close
-    (tie.spec
-    facet-at-requires
-    element-in-requires
-    enum-told
-    stride-in-requires
-    enum-known-b
-    cast-facet-at
-    facet-at-requires-2
-    stride-in-requires-2
-    returns
-    returns-2)
+    (tie.spec (λ c κs. search needs) (λ c κs. search needs) (λ c. search needs) (λ c κs. search needs) (λ c. search needs)
+    (λ c. search needs) (λ c κs. search needs) (λ c κs. search needs) returns returns-2)

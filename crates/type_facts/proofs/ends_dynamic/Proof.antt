@@ -18,18 +18,6 @@ Inv-loop s types n b at k₀ p₀ k p = (0 < k) × ((p + 300 * k ≤ 80000) × (
 abbrev μ-loop : tie.MeasureT-loop
 μ-loop s types n b at k₀ p₀ k p = k
 
-name-end-requires : tie.Need-name-end-requires Inv-loop μ-loop
-name-end-requires c κs = search needs
-
-add-u8-at : tie.Need-add-u8-at Inv-loop μ-loop
-add-u8-at c = search needs
-
-u8-at-requires : tie.Need-u8-at-requires Inv-loop μ-loop
-u8-at-requires c κs = search needs
-
-add-p : tie.Need-add-p Inv-loop μ-loop
-add-p c = search needs
-
 returns : tie.Need-returns Inv-loop μ-loop
 returns c =
     let a = c .before .before .before .before .before .before .args in
@@ -50,31 +38,10 @@ loop-holds c =
       ),
     )
 
-add-name-end : tie.Need-add-name-end Inv-loop μ-loop
-add-name-end c = search needs
-
-name-end-requires-2 : tie.Need-name-end-requires-2 Inv-loop μ-loop
-name-end-requires-2 c κs = search needs
-
-sub-k : tie.Need-sub-k Inv-loop μ-loop
-sub-k c = search needs
-
-loop-less : tie.Need-loop-less Inv-loop μ-loop
-loop-less c = search needs
-
 loop-again : tie.Need-loop-again Inv-loop μ-loop
 loop-again c = let a = c .before .before .before .before .before .before .before .before .before .args in
     let ts = typesFrom (a .s .now) (a .types .now) (a .n) in
     (omega (arith, c .before .loop-test .taken), (omega (arith, c .name-end2 .ensures .1, c .before .before .loop .inv .1 .0), last-on ts (a .b .now) (c .before .before .loop .p) (c .before .before .loop .k) (c .before .loop-test .taken) (c .name-end2 .result) (c .name-end2 .ensures .0) ∙ c .before .before .loop .inv .1 .1))
-
-u16-at-requires : tie.Need-u16-at-requires Inv-loop μ-loop
-u16-at-requires c κs = search needs
-
-cast-is-dynamic : tie.Need-cast-is-dynamic Inv-loop μ-loop
-cast-is-dynamic c = search needs
-
-is-dynamic-requires : tie.Need-is-dynamic-requires Inv-loop μ-loop
-is-dynamic-requires c κs = search needs
 
 returns-2 : tie.Need-returns-2 Inv-loop μ-loop
 returns-2 c = let a = c .before .before .before .before .before .before .before .before .before .before .args in
@@ -84,21 +51,6 @@ returns-2 c = let a = c .before .before .before .before .before .before .before 
 pub ends-dynamic-spec : {M : Type 1} → statement M
 ends-dynamic-spec =
     tie.close
-    (tie.spec
-    Inv-loop
-    μ-loop
-    name-end-requires
-    add-u8-at
-    u8-at-requires
-    add-p
-    returns
-    loop-holds
-    add-name-end
-    name-end-requires-2
-    sub-k
-    loop-less
-    loop-again
-    u16-at-requires
-    cast-is-dynamic
-    is-dynamic-requires
-    returns-2)
+    (tie.spec Inv-loop μ-loop (λ c κs. search needs) (λ c. search needs) (λ c κs. search needs) (λ c. search needs) returns
+    loop-holds (λ c. search needs) (λ c κs. search needs) (λ c. search needs) (λ c. search needs) loop-again
+    (λ c κs. search needs) (λ c. search needs) (λ c κs. search needs) returns-2)

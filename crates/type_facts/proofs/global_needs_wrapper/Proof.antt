@@ -9,16 +9,10 @@ use Rattle.type_facts.proofs.Laws.{wrapper}
 use Rattle.type_facts.proofs.global_needs_wrapper.Statement.{statement}
 use Rattle.type_facts.proofs.global_needs_wrapper.Tie as tie
 
-wraps-space-requires : tie.Need-wraps-space-requires
-wraps-space-requires c κs = search needs
-
 returns : tie.Need-returns
 returns c = λ g et es. let a = c .before .before .before .before .args in
     let ts = typesFrom (a .s .now) (a .types .now) (a .n) in
     sym (wrapper ts (a .i) (a .space) g et es ∙ ap (λ x. x && wrapsType ts (innerAt ts (a .i))) (sym (c .before .wraps-space .ensures) ∙ not-true _ (c .if1 .taken)))
-
-wraps-type-requires : tie.Need-wraps-type-requires
-wraps-type-requires c κs = search needs
 
 returns-2 : tie.Need-returns-2
 returns-2 c = λ g et es. let a = c .before .before .before .before .before .args in
@@ -27,4 +21,4 @@ returns-2 c = λ g et es. let a = c .before .before .before .before .before .arg
 
 pub global-needs-wrapper-spec : {M : Type 1} → statement M
 global-needs-wrapper-spec =
-    tie.close (tie.spec wraps-space-requires returns wraps-type-requires returns-2)
+    tie.close (tie.spec (λ c κs. search needs) returns (λ c κs. search needs) returns-2)

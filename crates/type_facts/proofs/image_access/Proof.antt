@@ -8,16 +8,10 @@ use Rattle.type_facts.specs.Facets.{accessIn, byteOf}
 use Rattle.type_facts.proofs.image_access.Statement.{statement}
 use Rattle.type_facts.proofs.image_access.Tie as tie
 
-facet-at-requires : tie.Need-facet-at-requires
-facet-at-requires c κs = search needs
-
-access-in-requires : tie.Need-access-in-requires
-access-in-requires c κs = search needs
-
 returns : tie.Need-returns
 returns c =
     let a = c .before .before .before .before .args in
     ap byteOf (c .access-in .ensures ∙ ap accessIn (c .before .facet-at .ensures)) ∙ sym (access (innerAt (typesFrom (a .s .now) (a .types .now) (a .n)) (a .i)))
 
 pub image-access-spec : {M : Type 1} → statement M
-image-access-spec = tie.close (tie.spec facet-at-requires access-in-requires returns)
+image-access-spec = tie.close (tie.spec (λ c κs. search needs) (λ c κs. search needs) returns)

@@ -8,16 +8,10 @@ use Rattle.type_facts.specs.Facets.{dynamicIn}
 use Rattle.type_facts.proofs.is_dynamic.Statement.{statement}
 use Rattle.type_facts.proofs.is_dynamic.Tie as tie
 
-facet-at-requires : tie.Need-facet-at-requires
-facet-at-requires c κs = search needs
-
-dynamic-in-requires : tie.Need-dynamic-in-requires
-dynamic-in-requires c κs = search needs
-
 returns : tie.Need-returns
 returns c =
     let a = c .before .before .before .before .args in
     c .dynamic-in .ensures ∙ ap dynamicIn (c .before .facet-at .ensures) ∙ sym (dynamic (innerAt (typesFrom (a .s .now) (a .types .now) (a .n)) (a .i)))
 
 pub is-dynamic-spec : {M : Type 1} → statement M
-is-dynamic-spec = tie.close (tie.spec facet-at-requires dynamic-in-requires returns)
+is-dynamic-spec = tie.close (tie.spec (λ c κs. search needs) (λ c κs. search needs) returns)

@@ -17,15 +17,6 @@ abbrev μ-entries : tie.MeasureT-entries
 entries-holds : tie.Need-entries-holds Inv-entries μ-entries
 entries-holds c = (omega arith, refl)
 
-remap-at-requires : tie.Need-remap-at-requires Inv-entries μ-entries
-remap-at-requires c κs = search needs
-
-add-k : tie.Need-add-k Inv-entries μ-entries
-add-k c = search needs
-
-entries-less : tie.Need-entries-less Inv-entries μ-entries
-entries-less c = search needs
-
 entries-again : tie.Need-entries-again Inv-entries μ-entries
 entries-again c =
     let a = c .before .before .before .before .before .before .before .args in
@@ -35,9 +26,6 @@ entries-again c =
       l .inv .1
           ∙ other-group (a .s .now) (a .remaps .now) (a .n) (a .group) (a .binding) (l .k) (c .before .before .before .before .before .before .before .pre) lt (remapOf (c .before .before .remap-at .result)) (c .before .before .remap-at .ensures) (c .if1 .taken),
     )
-
-entries-less-2 : tie.Need-entries-less-2 Inv-entries μ-entries
-entries-less-2 c = search needs
 
 entries-again-2 : tie.Need-entries-again-2 Inv-entries μ-entries
 entries-again-2 c =
@@ -67,15 +55,5 @@ returns-2 c =
 pub remap-of-spec : {M : Type 1} → statement M
 remap-of-spec =
     tie.close
-    (tie.spec
-    Inv-entries
-    μ-entries
-    entries-holds
-    remap-at-requires
-    add-k
-    entries-less
-    entries-again
-    entries-less-2
-    entries-again-2
-    returns
-    returns-2)
+    (tie.spec Inv-entries μ-entries entries-holds (λ c κs. search needs) (λ c. search needs) (λ c. search needs) entries-again
+    (λ c. search needs) entries-again-2 returns returns-2)

@@ -11,15 +11,6 @@ use Rattle.type_facts.proofs.Others.{wrapped}
 use Rattle.type_facts.proofs.wraps_facet.Statement.{statement}
 use Rattle.type_facts.proofs.wraps_facet.Tie as tie
 
-enum-told : tie.Need-enum-told
-enum-told c = search needs
-
-ends-dynamic-requires : tie.Need-ends-dynamic-requires
-ends-dynamic-requires c κs = search needs
-
-enum-told-2 : tie.Need-enum-told-2
-enum-told-2 c = search needs
-
 returns : tie.Need-returns
 returns c =
     let a = c .before .before .before .before .before .before .args in
@@ -28,12 +19,9 @@ returns c =
     ap not (c .ends-dynamic .ensures)
     ∙ sym (ap (λ f. wrapsIn (typesFrom (a .s .now) (a .types .now) (a .n)) f (membersAt b (n + 5) (u8At b (n + 4)))) (c .before .enum-told .given .1))
 
-returns-2 : tie.Need-returns-2
-returns-2 c = search needs
-
 returns-3 : tie.Need-returns-3
 returns-3 c = wrapped _ _ (c .before .before .before .before .args .f) (c .match .keys3)
 
 pub wraps-facet-spec : {M : Type 1} → statement M
 wraps-facet-spec =
-    tie.close (tie.spec enum-told ends-dynamic-requires enum-told-2 returns returns-2 returns-3)
+    tie.close (tie.spec (λ c. search needs) (λ c κs. search needs) (λ c. search needs) returns (λ c. search needs) returns-3)

@@ -16,21 +16,6 @@ returns : tie.Need-returns
 returns c = let a = c .before .before .before .args in
     sym (ap (wrapsType (typesFrom (a .s .now) (a .types .now) (a .n))) (inner-past (a .s .now) (a .types .now) (a .n) (a .i) (c .before .before .before .pre) (c .if1 .taken)))
 
-entry-at-requires : tie.Need-entry-at-requires
-entry-at-requires c κs = search needs
-
-body-of-requires : tie.Need-body-of-requires
-body-of-requires c κs = search needs
-
-tag-of-requires : tie.Need-tag-of-requires
-tag-of-requires c κs = search needs
-
-facet-of-requires : tie.Need-facet-of-requires
-facet-of-requires c κs = search needs
-
-wraps-facet-requires : tie.Need-wraps-facet-requires
-wraps-facet-requires c κs = search needs
-
 returns-2 : tie.Need-returns-2
 returns-2 c = let a = c .before .before .before .before .before .before .before .before .args in
     let ts = typesFrom (a .s .now) (a .types .now) (a .n) in
@@ -43,11 +28,5 @@ returns-2 c = let a = c .before .before .before .before .before .before .before 
 pub wraps-type-spec : {M : Type 1} → statement M
 wraps-type-spec =
     tie.close
-    (tie.spec
-    returns
-    entry-at-requires
-    body-of-requires
-    tag-of-requires
-    facet-of-requires
-    wraps-facet-requires
-    returns-2)
+    (tie.spec returns (λ c κs. search needs) (λ c κs. search needs) (λ c κs. search needs) (λ c κs. search needs)
+    (λ c κs. search needs) returns-2)

@@ -4,11 +4,8 @@ use Rattle.writer.proofs.Words.{committed}
 use Rattle.writer.proofs.commit.Statement.{statement}
 use Rattle.writer.proofs.commit.Tie as tie
 
-add-w : tie.Need-add-w
-add-w c = search needs
-
 returns : tie.Need-returns
 returns c = committed _ _
 
 pub commit-spec : {M : Type 1} → statement M
-commit-spec = tie.close (tie.spec add-w returns)
+commit-spec = tie.close (tie.spec (λ c. search needs) returns)

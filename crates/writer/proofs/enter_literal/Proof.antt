@@ -8,24 +8,6 @@ use borrow.Author.Needs.{needs}
 use Rattle.writer.proofs.enter_literal.Statement.{statement}
 use Rattle.writer.proofs.enter_literal.Tie as tie
 
-mul-put-row : tie.Need-mul-put-row
-mul-put-row c = search needs
-
-mul-put-row-2 : tie.Need-mul-put-row-2
-mul-put-row-2 c = search needs
-
-add-put-row : tie.Need-add-put-row
-add-put-row c = search needs
-
-put-row-requires : tie.Need-put-row-requires
-put-row-requires c κs = search needs
-
-add-w : tie.Need-add-w
-add-w c = search needs
-
-same-length : tie.Need-same-length
-same-length c = search needs
-
 returns : tie.Need-returns
 returns c = let a = c .before .before .before .before .before .before .before .before .args in
     subst (λ (t : List ℕ). EnteredLiteral (a .form) (a .bits) (a .id) (a .w) (a .tables .now) (moreLiterals (a .w)) t) (sym (c .before .before .before .put-row .ensures)) (entered-literal (a .w) (a .tables .now) (a .form) (a .bits) (a .id) (c .before .before .before .before .before .before .before .before .pre))
@@ -33,4 +15,5 @@ returns c = let a = c .before .before .before .before .before .before .before .b
 pub enter-literal-spec : {M : Type 1} → statement M
 enter-literal-spec =
     tie.close
-    (tie.spec mul-put-row mul-put-row-2 add-put-row put-row-requires add-w same-length returns)
+    (tie.spec (λ c. search needs) (λ c. search needs) (λ c. search needs) (λ c κs. search needs) (λ c. search needs)
+    (λ c. search needs) returns)

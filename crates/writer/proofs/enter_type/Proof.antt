@@ -8,21 +8,9 @@ use borrow.Author.Needs.{needs}
 use Rattle.writer.proofs.enter_type.Statement.{statement}
 use Rattle.writer.proofs.enter_type.Tie as tie
 
-mul-put-row : tie.Need-mul-put-row
-mul-put-row c = search needs
-
-put-row-requires : tie.Need-put-row-requires
-put-row-requires c κs = search needs
-
-add-w : tie.Need-add-w
-add-w c = search needs
-
-same-length : tie.Need-same-length
-same-length c = search needs
-
 returns : tie.Need-returns
 returns c = let a = c .before .before .before .before .before .before .before .args in
     subst (λ (t : List ℕ). EnteredType (a .key) (a .id) (a .w) (a .tables .now) (moreTypes (a .w)) t) (sym (c .before .before .before .put-row .ensures)) (entered-type (a .w) (a .tables .now) (a .key) (a .id) (c .before .before .before .before .before .before .before .pre))
 
 pub enter-type-spec : {M : Type 1} → statement M
-enter-type-spec = tie.close (tie.spec mul-put-row put-row-requires add-w same-length returns)
+enter-type-spec = tie.close (tie.spec (λ c. search needs) (λ c κs. search needs) (λ c. search needs) (λ c. search needs) returns)

@@ -4,21 +4,9 @@ use borrow.Author.Needs.{needs}
 use Rattle.writer.proofs.find_composite.Statement.{statement}
 use Rattle.writer.proofs.find_composite.Tie as tie
 
-mul-parts : tie.Need-mul-parts
-mul-parts c = search needs
-
-mul-seek-parts : tie.Need-mul-seek-parts
-mul-seek-parts c = search needs
-
-add-seek-parts : tie.Need-add-seek-parts
-add-seek-parts c = search needs
-
-seek-parts-requires : tie.Need-seek-parts-requires
-seek-parts-requires c κs = search needs
-
 returns : tie.Need-returns
 returns c = let a = c .before .before .before .before .before .args in finds-composite (a .w) (a .tables .now) (c .seek-parts .result) (a .key) (a .n) (c .before .before .before .before .before .pre) (c .seek-parts .ensures)
 
 pub find-composite-spec : {M : Type 1} → statement M
 find-composite-spec =
-    tie.close (tie.spec mul-parts mul-seek-parts add-seek-parts seek-parts-requires returns)
+    tie.close (tie.spec (λ c. search needs) (λ c. search needs) (λ c. search needs) (λ c κs. search needs) returns)

@@ -4,14 +4,8 @@ use borrow.Author.Needs.{needs}
 use Rattle.writer.proofs.find_null.Statement.{statement}
 use Rattle.writer.proofs.find_null.Tie as tie
 
-mul-seek : tie.Need-mul-seek
-mul-seek c = search needs
-
-seek-requires : tie.Need-seek-requires
-seek-requires c κs = search needs
-
 returns : tie.Need-returns
 returns c = let a = c .before .before .before .args in finds-null (a .w) (a .tables .now) (c .seek .result) (a .ty) (c .seek .ensures)
 
 pub find-null-spec : {M : Type 1} → statement M
-find-null-spec = tie.close (tie.spec mul-seek seek-requires returns)
+find-null-spec = tie.close (tie.spec (λ c. search needs) (λ c κs. search needs) returns)

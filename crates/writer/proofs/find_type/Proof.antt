@@ -4,11 +4,8 @@ use borrow.Author.Needs.{needs}
 use Rattle.writer.proofs.find_type.Statement.{statement}
 use Rattle.writer.proofs.find_type.Tie as tie
 
-seek-requires : tie.Need-seek-requires
-seek-requires c κs = search needs
-
 returns : tie.Need-returns
 returns c = let a = c .before .before .args in finds-type (a .w) (a .tables .now) (c .seek .result) (a .key) (c .seek .ensures)
 
 pub find-type-spec : {M : Type 1} → statement M
-find-type-spec = tie.close (tie.spec seek-requires returns)
+find-type-spec = tie.close (tie.spec (λ c κs. search needs) returns)

@@ -13,24 +13,9 @@ returns : tie.Need-returns
 returns c = let a = c .before .before .args in
     lists-none (a .w) (a .sections .now) (a .c) (c .if1 .taken)
 
-is-listed-requires : tie.Need-is-listed-requires
-is-listed-requires c κs = search needs
-
-same-length : tie.Need-same-length
-same-length c = search needs
-
 returns-2 : tie.Need-returns-2
 returns-2 c = let a = c .before .before .before .before .before .args in
     lists-old (a .w) (a .sections .now) (a .c) (c .before .before .before .if1 .left) (sym (c .before .is-listed .ensures) ∙ c .if2 .taken)
-
-put-word-requires : tie.Need-put-word-requires
-put-word-requires c κs = search needs
-
-add-w : tie.Need-add-w
-add-w c = search needs
-
-same-length-2 : tie.Need-same-length-2
-same-length-2 c = search needs
 
 returns-3 : tie.Need-returns-3
 returns-3 c = let a = c .before .before .before .before .before .before .before .before .before .args in
@@ -39,12 +24,5 @@ returns-3 c = let a = c .before .before .before .before .before .before .before 
 pub list-capability-spec : {M : Type 1} → statement M
 list-capability-spec =
     tie.close
-    (tie.spec
-    returns
-    is-listed-requires
-    same-length
-    returns-2
-    put-word-requires
-    add-w
-    same-length-2
-    returns-3)
+    (tie.spec returns (λ c κs. search needs) (λ c. search needs) returns-2 (λ c κs. search needs) (λ c. search needs)
+    (λ c. search needs) returns-3)

@@ -21,30 +21,6 @@ abbrev μ-loop : tie.MeasureT-loop
 loop-holds : tie.Need-loop-holds Inv-loop μ-loop
 loop-holds c = let a = c .before .before .args in (omega arith, refl, splice-none (a .sections .now) (a .p))
 
-add-put-word : tie.Need-add-put-word Inv-loop μ-loop
-add-put-word c = search needs
-
-add-low-word : tie.Need-add-low-word Inv-loop μ-loop
-add-low-word c = search needs
-
-mul-low-word : tie.Need-mul-low-word Inv-loop μ-loop
-mul-low-word c = search needs
-
-shared-slice-read-low-word : tie.Need-shared-slice-read-low-word Inv-loop μ-loop
-shared-slice-read-low-word c = search needs
-
-low-word-requires : tie.Need-low-word-requires Inv-loop μ-loop
-low-word-requires c κs = search needs
-
-put-word-requires : tie.Need-put-word-requires Inv-loop μ-loop
-put-word-requires c κs = search needs
-
-add-i : tie.Need-add-i Inv-loop μ-loop
-add-i c = search needs
-
-loop-less : tie.Need-loop-less Inv-loop μ-loop
-loop-less c = search needs
-
 loop-again : tie.Need-loop-again Inv-loop μ-loop
 loop-again c = let a = c .before .before .before .before .before .before .before .before .before .before .args in let l = c .before .before .before .before .before .before .before .loop in
     (omega arith, ap length (c .before .before .put-word .ensures) ∙ splice-length (l .sections) (a .p + l .i) (c .before .before .before .low-word .result ∷ []) (omega arith) ∙ l .inv .1, c .before .before .put-word .ensures ∙ ap (λ (z : List ℕ). splice z (a .p + l .i) (c .before .before .before .low-word .result ∷ [])) (l .inv .2) ∙ put-more (a .sections .now) (a .p) (a .tables .now) (a .start) (l .i) (c .before .before .before .low-word .result) (a .p + l .i) (omega arith) (omega arith) (c .before .before .before .low-word .ensures) refl)
@@ -58,18 +34,5 @@ returns c = let a = c .before .before .before .before .args in let e : c .before
 pub put-ids-spec : {M : Type 1} → statement M
 put-ids-spec =
     tie.close
-    (tie.spec
-    Inv-loop
-    μ-loop
-    loop-holds
-    add-put-word
-    add-low-word
-    mul-low-word
-    shared-slice-read-low-word
-    low-word-requires
-    put-word-requires
-    add-i
-    loop-less
-    loop-again
-    same-length
-    returns)
+    (tie.spec Inv-loop μ-loop loop-holds (λ c. search needs) (λ c. search needs) (λ c. search needs) (λ c. search needs)
+    (λ c κs. search needs) (λ c κs. search needs) (λ c. search needs) (λ c. search needs) loop-again same-length returns)

@@ -9,21 +9,6 @@ use borrow.Author.Needs.{needs}
 use Rattle.writer.proofs.put_pending.Statement.{statement}
 use Rattle.writer.proofs.put_pending.Tie as tie
 
-mul-put-word : tie.Need-mul-put-word
-mul-put-word c = search needs
-
-add-put-word : tie.Need-add-put-word
-add-put-word c = search needs
-
-add-put-word-2 : tie.Need-add-put-word-2
-add-put-word-2 c = search needs
-
-put-word-requires : tie.Need-put-word-requires
-put-word-requires c κs = search needs
-
-same-length : tie.Need-same-length
-same-length c = search needs
-
 returns : tie.Need-returns
 returns c = let a = c .before .before .before .before .before .before .before .args in
     subst (λ (t : List ℕ). Pending (a .k) (a .x) (a .w) (a .sections .now) t) (sym (c .before .before .put-word .ensures)) (pending (a .w) (a .sections .now) (a .k) (a .x) (sectionAt declarations (a .w) + a .w .declarations + a .k) refl (c .before .before .before .before .before .before .before .pre))
@@ -31,4 +16,4 @@ returns c = let a = c .before .before .before .before .before .before .before .a
 pub put-pending-spec : {M : Type 1} → statement M
 put-pending-spec =
     tie.close
-    (tie.spec mul-put-word add-put-word add-put-word-2 put-word-requires same-length returns)
+    (tie.spec (λ c. search needs) (λ c. search needs) (λ c. search needs) (λ c κs. search needs) (λ c. search needs) returns)

@@ -10,34 +10,13 @@ use borrow.Author.Needs.{needs}
 use Rattle.writer.proofs.put_row.Statement.{statement}
 use Rattle.writer.proofs.put_row.Tie as tie
 
-mul-tables : tie.Need-mul-tables
-mul-tables c = search needs
-
-slice-write-tables : tie.Need-slice-write-tables
-slice-write-tables c = search needs
-
-add-tables : tie.Need-add-tables
-add-tables c = search needs
-
-mul-tables-2 : tie.Need-mul-tables-2
-mul-tables-2 c = search needs
-
 slice-write-tables-2 : tie.Need-slice-write-tables-2
 slice-write-tables-2 c = let a = c .args in
     omega (arith, length-set (a .tables .now) (a .p) (a .a))
 
-add-tables-2 : tie.Need-add-tables-2
-add-tables-2 c = search needs
-
-mul-tables-3 : tie.Need-mul-tables-3
-mul-tables-3 c = search needs
-
 slice-write-tables-3 : tie.Need-slice-write-tables-3
 slice-write-tables-3 c = let a = c .args in
     omega (arith, length-set (a .tables .now) (a .p) (a .a), length-set (set (a .tables .now) (a .p) (a .a)) (a .p + 1) (a .b))
-
-same-length : tie.Need-same-length
-same-length c = search needs
 
 returns : tie.Need-returns
 returns c = let a = c .args in
@@ -48,14 +27,5 @@ returns c = let a = c .args in
 pub put-row-spec : {M : Type 1} → statement M
 put-row-spec =
     tie.close
-    (tie.spec
-    mul-tables
-    slice-write-tables
-    add-tables
-    mul-tables-2
-    slice-write-tables-2
-    add-tables-2
-    mul-tables-3
-    slice-write-tables-3
-    same-length
-    returns)
+    (tie.spec (λ c. search needs) (λ c. search needs) (λ c. search needs) (λ c. search needs) slice-write-tables-2
+    (λ c. search needs) (λ c. search needs) slice-write-tables-3 (λ c. search needs) returns)

@@ -28,46 +28,13 @@ entries-holds : tie.Need-entries-holds Inv-loop μ-loop Inv-entries μ-entries
 entries-holds c = let a = c .args in let z : a .n ≡ a .n - 0 = omega arith in
     (omega arith, omega arith, omega arith, ap (λ (k : ℕ). seekParts (a .key) (part (a .tables .now) (a .q) (a .m)) (a .q) (a .tables .now) (a .start) (a .parts) k) z)
 
-add-l : tie.Need-add-l Inv-loop μ-loop Inv-entries μ-entries
-add-l c = search needs
-
-mul-l : tie.Need-mul-l Inv-loop μ-loop Inv-entries μ-entries
-mul-l c = search needs
-
-shared-slice-read-l : tie.Need-shared-slice-read-l Inv-loop μ-loop Inv-entries μ-entries
-shared-slice-read-l c = search needs
-
-sub-if1 : tie.Need-sub-if1 Inv-loop μ-loop Inv-entries μ-entries
-sub-if1 c = search needs
-
 returns : tie.Need-returns Inv-loop μ-loop Inv-entries μ-entries
 returns c = let a = c .before .before .before .before .args in let s = c .before .before .before .entries in
     sym (s .inv .3 ∙ parts-over (a .key) (part (a .tables .now) (a .q) (a .m)) (a .q) (a .tables .now) (s .p) (s .o) (a .n - s .i) (omega arith) (c .if1 .taken))
 
-add-i : tie.Need-add-i Inv-loop μ-loop Inv-entries μ-entries
-add-i c = search needs
-
-add-p : tie.Need-add-p Inv-loop μ-loop Inv-entries μ-entries
-add-p c = search needs
-
-add-o : tie.Need-add-o Inv-loop μ-loop Inv-entries μ-entries
-add-o c = search needs
-
-mul-if2 : tie.Need-mul-if2 Inv-loop μ-loop Inv-entries μ-entries
-mul-if2 c = search needs
-
-shared-slice-read-if2 : tie.Need-shared-slice-read-if2 Inv-loop μ-loop Inv-entries μ-entries
-shared-slice-read-if2 c = search needs
-
-entries-less : tie.Need-entries-less Inv-loop μ-loop Inv-entries μ-entries
-entries-less c = search needs
-
 entries-again : tie.Need-entries-again Inv-loop μ-loop Inv-entries μ-entries
 entries-again c = let a = c .before .before .before .before .before .before .args in let s = c .before .before .before .before .before .entries in
     (omega arith, omega arith, omega arith, s .inv .3 ∙ other-key (a .key) (part (a .tables .now) (a .q) (a .m)) (a .q) (a .tables .now) (s .p) (s .o) (a .n - s .i) (a .n - (s .i + 1)) (omega arith) (omega arith) (c .if2 .taken))
-
-entries-less-2 : tie.Need-entries-less-2 Inv-loop μ-loop Inv-entries μ-entries
-entries-less-2 c = search needs
 
 entries-again-2 : tie.Need-entries-again-2 Inv-loop μ-loop Inv-entries μ-entries
 entries-again-2 c = let a = c .before .before .before .before .before .before .before .args in let s = c .before .before .before .before .before .before .entries in let T = a .tables .now in let l = getD T (s .p + 1) 0 in
@@ -76,53 +43,17 @@ entries-again-2 c = let a = c .before .before .before .before .before .before .b
 loop-holds : tie.Need-loop-holds Inv-loop μ-loop Inv-entries μ-entries
 loop-holds c = (omega arith, refl)
 
-add-if4 : tie.Need-add-if4 Inv-loop μ-loop Inv-entries μ-entries
-add-if4 c = search needs
-
-mul-if4 : tie.Need-mul-if4 Inv-loop μ-loop Inv-entries μ-entries
-mul-if4 c = search needs
-
-shared-slice-read-if4 : tie.Need-shared-slice-read-if4 Inv-loop μ-loop Inv-entries μ-entries
-shared-slice-read-if4 c = search needs
-
-add-if4-2 : tie.Need-add-if4-2 Inv-loop μ-loop Inv-entries μ-entries
-add-if4-2 c = search needs
-
-mul-if4-2 : tie.Need-mul-if4-2 Inv-loop μ-loop Inv-entries μ-entries
-mul-if4-2 c = search needs
-
-shared-slice-read-if4-2 : tie.Need-shared-slice-read-if4-2 Inv-loop μ-loop Inv-entries μ-entries
-shared-slice-read-if4-2 c = search needs
-
-entries-less-3 : tie.Need-entries-less-3 Inv-loop μ-loop Inv-entries μ-entries
-entries-less-3 c = search needs
-
 entries-again-3 : tie.Need-entries-again-3 Inv-loop μ-loop Inv-entries μ-entries
 entries-again-3 c = let a = c .before .before .before .before .before .before .before .before .before .before .before .before .args in let s = c .before .before .before .before .before .before .before .before .before .before .before .entries in let T = a .tables .now in let l = getD T (s .p + 1) 0 in let j = c .before .before .before .before .loop .j in
     let la = part-length T (s .o) l (omega arith) in let lb = part-length T (a .q) (a .m) (omega arith) in
     let ha = part-at T (s .o) l (omega arith) j (omega arith) in let hb = part-at T (a .q) (a .m) (omega arith) j (omega arith) in
     (omega arith, omega arith, omega arith, s .inv .3 ∙ other-parts (a .key) (part T (a .q) (a .m)) (a .q) T (s .p) (s .o) (a .n - s .i) (a .n - (s .i + 1)) (omega arith) (omega arith) (c .before .before .before .before .loop .inv .1 ∙ part-differs (part T (s .o) l) (part T (a .q) (a .m)) j (omega arith) (omega arith) (λ z. c .if4 .taken (sym ha ∙ z ∙ hb))))
 
-add-j : tie.Need-add-j Inv-loop μ-loop Inv-entries μ-entries
-add-j c = search needs
-
-loop-less : tie.Need-loop-less Inv-loop μ-loop Inv-entries μ-entries
-loop-less c = search needs
-
 loop-again : tie.Need-loop-again Inv-loop μ-loop Inv-entries μ-entries
 loop-again c = let a = c .before .before .before .before .before .before .before .before .before .before .before .before .args in let s = c .before .before .before .before .before .before .before .before .before .before .before .entries in let T = a .tables .now in let l = getD T (s .p + 1) 0 in let j = c .before .before .before .before .loop .j in
     let la = part-length T (s .o) l (omega arith) in let lb = part-length T (a .q) (a .m) (omega arith) in
     let ha = part-at T (s .o) l (omega arith) j (omega arith) in let hb = part-at T (a .q) (a .m) (omega arith) j (omega arith) in
     (omega arith, c .before .before .before .before .loop .inv .1 ∙ part-same (part T (s .o) l) (part T (a .q) (a .m)) j (omega arith) (omega arith) (ha ∙ c .if4 .left ∙ sym hb))
-
-add-t16 : tie.Need-add-t16 Inv-loop μ-loop Inv-entries μ-entries
-add-t16 c = search needs
-
-mul-t17 : tie.Need-mul-t17 Inv-loop μ-loop Inv-entries μ-entries
-mul-t17 c = search needs
-
-shared-slice-read-t19 : tie.Need-shared-slice-read-t19 Inv-loop μ-loop Inv-entries μ-entries
-shared-slice-read-t19 c = search needs
 
 returns-2 : tie.Need-returns-2 Inv-loop μ-loop Inv-entries μ-entries
 returns-2 c = let a = c .before .before .before .before .before .before .before .before .before .before .args in let s = c .before .before .before .before .before .before .before .before .before .entries in let T = a .tables .now in let l = getD T (s .p + 1) 0 in let j = c .before .before .loop .j in
@@ -136,40 +67,9 @@ returns-3 c = let a = c .before .before .args in let s = c .before .entries in
 pub seek-parts-spec : {M : Type 1} → statement M
 seek-parts-spec =
     tie.close
-    (tie.spec
-    Inv-loop
-    μ-loop
-    Inv-entries
-    μ-entries
-    entries-holds
-    add-l
-    mul-l
-    shared-slice-read-l
-    sub-if1
-    returns
-    add-i
-    add-p
-    add-o
-    mul-if2
-    shared-slice-read-if2
-    entries-less
-    entries-again
-    entries-less-2
-    entries-again-2
-    loop-holds
-    add-if4
-    mul-if4
-    shared-slice-read-if4
-    add-if4-2
-    mul-if4-2
-    shared-slice-read-if4-2
-    entries-less-3
-    entries-again-3
-    add-j
-    loop-less
-    loop-again
-    add-t16
-    mul-t17
-    shared-slice-read-t19
-    returns-2
-    returns-3)
+    (tie.spec Inv-loop μ-loop Inv-entries μ-entries entries-holds (λ c. search needs) (λ c. search needs) (λ c. search needs)
+    (λ c. search needs) returns (λ c. search needs) (λ c. search needs) (λ c. search needs) (λ c. search needs)
+    (λ c. search needs) (λ c. search needs) entries-again (λ c. search needs) entries-again-2 loop-holds (λ c. search needs)
+    (λ c. search needs) (λ c. search needs) (λ c. search needs) (λ c. search needs) (λ c. search needs) (λ c. search needs)
+    entries-again-3 (λ c. search needs) (λ c. search needs) loop-again (λ c. search needs) (λ c. search needs) (λ c. search needs)
+    returns-2 returns-3)

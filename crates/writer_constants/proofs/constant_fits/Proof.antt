@@ -10,15 +10,6 @@ use Rattle.writer_constants.proofs.Records.{is-taken}
 use Rattle.writer_constants.proofs.constant_fits.Statement.{statement}
 use Rattle.writer_constants.proofs.constant_fits.Tie as tie
 
-body-of-requires : tie.Need-body-of-requires
-body-of-requires c κs = search needs
-
-tag-of-requires : tie.Need-tag-of-requires
-tag-of-requires c κs = search needs
-
-expression-of-requires : tie.Need-expression-of-requires
-expression-of-requires c κs = search needs
-
 expression-fits-requires : tie.Need-expression-fits-requires
 expression-fits-requires c κs =
     let a = c .before .before .before .before .before .before .before .before .before .args in
@@ -28,9 +19,6 @@ expression-fits-requires c κs =
     let e = c .before .expression-of in
     let q = is-taken (a .n) (recordAt (a .rest .now)) (p .1 .0) (t .result) (b .result .now) (t .ensures) (b .ensures) (e .result) (e .ensures) in
     (p .0, (subst (λ (x : Expression). below (a .n) (expressionTypes x) ≡ true) (sym q) (p .1 .0 .types), p .1 .1))
-
-same-length : tie.Need-same-length
-same-length c = search needs
 
 returns : tie.Need-returns
 returns c =
@@ -46,10 +34,5 @@ returns c =
 pub constant-fits-spec : {M : Type 1} → statement M
 constant-fits-spec =
     tie.close
-    (tie.spec
-    body-of-requires
-    tag-of-requires
-    expression-of-requires
-    expression-fits-requires
-    same-length
+    (tie.spec (λ c κs. search needs) (λ c κs. search needs) (λ c κs. search needs) expression-fits-requires (λ c. search needs)
     returns)

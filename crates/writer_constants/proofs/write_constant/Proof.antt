@@ -9,15 +9,6 @@ use Rattle.writer_constants.proofs.Records.{few, roomy, written, is-tak
 use Rattle.writer_constants.proofs.write_constant.Statement.{statement}
 use Rattle.writer_constants.proofs.write_constant.Tie as tie
 
-body-of-requires : tie.Need-body-of-requires
-body-of-requires c κs = search needs
-
-tag-of-requires : tie.Need-tag-of-requires
-tag-of-requires c κs = search needs
-
-expression-of-requires : tie.Need-expression-of-requires
-expression-of-requires c κs = search needs
-
 write-constant-expr-requires : tie.Need-write-constant-expr-requires
 write-constant-expr-requires c κs =
     let a = c .before .before .before .before .before .before .before .before .before .before .args in
@@ -33,12 +24,6 @@ write-constant-expr-requires c κs =
         subst (λ (x : Expression). Room (expressionCost x) (a .w) (a .tables .now) (a .sections .now)) (sym q) (roomy (a .n) r (p .1 .0) (a .w) (a .tables .now) (a .sections .now) (p .1 .1)),
       ),
     )
-
-same-length : tie.Need-same-length
-same-length c = search needs
-
-same-length-2 : tie.Need-same-length-2
-same-length-2 c = search needs
 
 returns : tie.Need-returns
 returns c =
@@ -57,11 +42,5 @@ returns c =
 pub write-constant-spec : {M : Type 1} → statement M
 write-constant-spec =
     tie.close
-    (tie.spec
-    body-of-requires
-    tag-of-requires
-    expression-of-requires
-    write-constant-expr-requires
-    same-length
-    same-length-2
-    returns)
+    (tie.spec (λ c κs. search needs) (λ c κs. search needs) (λ c κs. search needs) write-constant-expr-requires
+    (λ c. search needs) (λ c. search needs) returns)

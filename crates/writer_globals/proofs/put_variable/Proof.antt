@@ -6,24 +6,6 @@ use Rattle.writer_globals.proofs.Inits.{with-init, without-init}
 use Rattle.writer_globals.proofs.put_variable.Statement.{statement}
 use Rattle.writer_globals.proofs.put_variable.Tie as tie
 
-low-word-requires : tie.Need-low-word-requires
-low-word-requires c κs = search needs
-
-low-word-requires-2 : tie.Need-low-word-requires-2
-low-word-requires-2 c κs = search needs
-
-low-word-requires-3 : tie.Need-low-word-requires-3
-low-word-requires-3 c κs = search needs
-
-slice-aggregate-declare : tie.Need-slice-aggregate-declare
-slice-aggregate-declare c = search needs
-
-declare-requires : tie.Need-declare-requires
-declare-requires c κs = search needs
-
-same-length : tie.Need-same-length
-same-length c = search needs
-
 returns : tie.Need-returns
 returns c =
     let c₁ = c .before .before .before .before in
@@ -33,15 +15,6 @@ returns c =
     let c₅ = c₄ .before .before in
     let a = c₅ .args in
     with-init (a .ty) (a .id) (a .class) (a .init) (omega (arith, c₅ .fits)) (a .there) (c₄ .low-word .ensures) (c₃ .low-word2 .ensures) (c₂ .if1 .taken) (c₁ .low-word3 .ensures) (c .before .before .declare .ensures)
-
-slice-aggregate-declare-2 : tie.Need-slice-aggregate-declare-2
-slice-aggregate-declare-2 c = search needs
-
-declare-requires-2 : tie.Need-declare-requires-2
-declare-requires-2 c κs = search needs
-
-same-length-2 : tie.Need-same-length-2
-same-length-2 c = search needs
 
 returns-2 : tie.Need-returns-2
 returns-2 c =
@@ -55,15 +28,5 @@ returns-2 c =
 pub put-variable-spec : {M : Type 1} → statement M
 put-variable-spec =
     tie.close
-    (tie.spec
-    low-word-requires
-    low-word-requires-2
-    low-word-requires-3
-    slice-aggregate-declare
-    declare-requires
-    same-length
-    returns
-    slice-aggregate-declare-2
-    declare-requires-2
-    same-length-2
-    returns-2)
+    (tie.spec (λ c κs. search needs) (λ c κs. search needs) (λ c κs. search needs) (λ c. search needs) (λ c κs. search needs)
+    (λ c. search needs) returns (λ c. search needs) (λ c κs. search needs) (λ c. search needs) returns-2)

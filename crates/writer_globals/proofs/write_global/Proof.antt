@@ -5,24 +5,12 @@ use Rattle.writer_globals.proofs.Whole.{as-read, record-room, record-ke
 use Rattle.writer_globals.proofs.write_global.Statement.{statement}
 use Rattle.writer_globals.proofs.write_global.Tie as tie
 
-body-of-requires : tie.Need-body-of-requires
-body-of-requires c κs = search needs
-
-global-of-requires : tie.Need-global-of-requires
-global-of-requires c κs = search needs
-
 write-global-variable-requires : tie.Need-write-global-variable-requires
 write-global-variable-requires c κs =
     let c₁ = c .before .before .before in
     let c₂ = c₁ .before .before .before .before .before .before .before in
     let r = recordAt (c₂ .args .rest .now) in
     (c₂ .pre .0, c₂ .pre .1, record-room r (c₂ .pre .2) (c₁ .body-of .ensures) (c₂ .pre .3))
-
-same-length : tie.Need-same-length
-same-length c = search needs
-
-same-length-2 : tie.Need-same-length-2
-same-length-2 c = search needs
 
 returns : tie.Need-returns
 returns c =
@@ -37,10 +25,5 @@ returns c =
 pub write-global-spec : {M : Type 1} → statement M
 write-global-spec =
     tie.close
-    (tie.spec
-    body-of-requires
-    global-of-requires
-    write-global-variable-requires
-    same-length
-    same-length-2
+    (tie.spec (λ c κs. search needs) (λ c κs. search needs) write-global-variable-requires (λ c. search needs) (λ c. search needs)
     returns)

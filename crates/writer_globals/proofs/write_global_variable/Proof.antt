@@ -10,27 +10,6 @@ use Rattle.writer_globals.proofs.Whole.{room-name, room-access, room-bi
 use Rattle.writer_globals.proofs.write_global_variable.Statement.{statement}
 use Rattle.writer_globals.proofs.write_global_variable.Tie as tie
 
-access-of-requires : tie.Need-access-of-requires
-access-of-requires c κs = search needs
-
-pointer-form-of-requires : tie.Need-pointer-form-of-requires
-pointer-form-of-requires c κs = search needs
-
-cast-binding-base : tie.Need-cast-binding-base
-cast-binding-base c = search needs
-
-binding-base-requires : tie.Need-binding-base-requires
-binding-base-requires c κs = search needs
-
-gets-null-requires : tie.Need-gets-null-requires
-gets-null-requires c κs = search needs
-
-map-storage-class-requires : tie.Need-map-storage-class-requires
-map-storage-class-requires c κs = search needs
-
-take-id-requires : tie.Need-take-id-requires
-take-id-requires c κs = search needs
-
 name-global-requires : tie.Need-name-global-requires
 name-global-requires c κs =
     let c₁ = c .before .before .before .before .before .before .before .before .before .before .before .before .before .before in
@@ -135,21 +114,6 @@ returns c =
 pub write-global-variable-spec : {M : Type 1} → statement M
 write-global-variable-spec =
     tie.close
-    (tie.spec
-    access-of-requires
-    pointer-form-of-requires
-    cast-binding-base
-    binding-base-requires
-    gets-null-requires
-    map-storage-class-requires
-    take-id-requires
-    name-global-requires
-    decorate-access-requires
-    decorate-binding-requires
-    write-pointer-requires
-    block-base-requires
-    write-init-requires
-    put-variable-requires
-    same-length
-    same-length-2
-    returns)
+    (tie.spec (λ c κs. search needs) (λ c κs. search needs) (λ c. search needs) (λ c κs. search needs) (λ c κs. search needs)
+    (λ c κs. search needs) (λ c κs. search needs) name-global-requires decorate-access-requires decorate-binding-requires
+    write-pointer-requires block-base-requires write-init-requires put-variable-requires same-length same-length-2 returns)

@@ -8,40 +8,13 @@ use Rattle.writer_globals.proofs.Inits.{no-init, constant-init, null-in
 use Rattle.writer_globals.proofs.write_init.Statement.{statement}
 use Rattle.writer_globals.proofs.write_init.Tie as tie
 
-enum-known-init : tie.Need-enum-known-init
-enum-known-init c = search needs
-
-cast-value-at : tie.Need-cast-value-at
-cast-value-at c = search needs
-
-value-at-requires : tie.Need-value-at-requires
-value-at-requires c κs = search needs
-
-enum-told : tie.Need-enum-told
-enum-told c = search needs
-
 returns : tie.Need-returns
 returns c = let a = c .before .before .before .before .before .args in
     no-init (constantOf (a .init)) (a .null) (a .ty) (ap constantOf (c .before .enum-told .given .1)) (not-true (a .null) (c .if1 .taken))
 
-get-type-id-requires : tie.Need-get-type-id-requires
-get-type-id-requires c κs = search needs
-
-write-constant-null-requires : tie.Need-write-constant-null-requires
-write-constant-null-requires c κs = search needs
-
-same-length : tie.Need-same-length
-same-length c = search needs
-
 returns-2 : tie.Need-returns-2
 returns-2 c = let a = c .before .before .before .before .before .before .before .args in
     constant-init (constantOf (a .init)) (a .null) (a .ty) (ap constantOf (c .before .before .before .init .given .1)) (c .value-at .ensures)
-
-same-length-2 : tie.Need-same-length-2
-same-length-2 c = search needs
-
-same-length-3 : tie.Need-same-length-3
-same-length-3 c = search needs
 
 returns-3 : tie.Need-returns-3
 returns-3 c =
@@ -56,16 +29,5 @@ returns-3 c =
 pub write-init-spec : {M : Type 1} → statement M
 write-init-spec =
     tie.close
-    (tie.spec
-    enum-known-init
-    cast-value-at
-    value-at-requires
-    enum-told
-    returns
-    get-type-id-requires
-    write-constant-null-requires
-    same-length
-    returns-2
-    same-length-2
-    same-length-3
-    returns-3)
+    (tie.spec (λ c. search needs) (λ c. search needs) (λ c κs. search needs) (λ c. search needs) returns (λ c κs. search needs)
+    (λ c κs. search needs) (λ c. search needs) returns-2 (λ c. search needs) (λ c. search needs) returns-3)

@@ -8,24 +8,12 @@ use Rattle.writer_types.proofs.Whole.{shape-room, shape-got, aggregate-
 use Rattle.writer_types.proofs.declare_inner.Statement.{statement}
 use Rattle.writer_types.proofs.declare_inner.Tie as tie
 
-make-local-requires : tie.Need-make-local-requires
-make-local-requires c κs = search needs
-
-enum-known-l : tie.Need-enum-known-l
-enum-known-l c = search needs
-
 get-type-id-requires : tie.Need-get-type-id-requires
 get-type-id-requires c κs = let a = c .before .before .before .before .before .before .before .before .before .before .before .args in
     let n = nameEnd (a .b .now) 0 in
     let m = c .before .before .before .before .before .make-local in
     let l = c .before .before .before .l in
     shape-room (innerIn (a .b .now) (a .t)) (m .result) (m .ensures (a .b .now) n) (a .w) (a .tables .now) (a .sections .now) (l .given .0 .0) (l .given .1) (c .before .before .before .before .before .before .before .before .before .before .before .pre .1)
-
-enum-told : tie.Need-enum-told
-enum-told c = search needs
-
-take-id-requires : tie.Need-take-id-requires
-take-id-requires c κs = search needs
 
 write-aggregate-requires : tie.Need-write-aggregate-requires
 write-aggregate-requires c κs = let a = c .before .before .before .before .before .before .before .before .before .before .before .args in
@@ -35,12 +23,6 @@ write-aggregate-requires c κs = let a = c .before .before .before .before .befo
     let r = aggregate-room (innerIn (a .b .now) (a .t)) (m .result) (m .ensures (a .b .now) n) (a .w) (a .tables .now) (a .sections .now) (c .before .before .before .enum-told .given .1) (p .1) in
     (p .0, omega (arith, r .rows, r .words, c .before .before .take-id .ensures .grown))
 
-same-length : tie.Need-same-length
-same-length c = search needs
-
-same-length-2 : tie.Need-same-length-2
-same-length-2 c = search needs
-
 returns : tie.Need-returns
 returns c = let a = c .before .before .before .before .before .before .before .before .before .before .before .before .before .before .before .before .args in
     let n = nameEnd (a .b .now) 0 in
@@ -49,12 +31,6 @@ returns c = let a = c .before .before .before .before .before .before .before .b
     let g = c .before .before .before .before .get-type-id in
     shape-got (innerIn (a .b .now) (a .t)) (m .result) (m .ensures (a .b .now) n) (a .w) (a .tables .now) (a .sections .now) (l .given .0 .0) (l .given .1)
     (a .debug) (typesFrom (a .s .now) (a .types .now) (a .n)) (g .result) (g .last .0) (g .last .1 .0) (g .ensures)
-
-same-length-3 : tie.Need-same-length-3
-same-length-3 c = search needs
-
-same-length-4 : tie.Need-same-length-4
-same-length-4 c = search needs
 
 returns-2 : tie.Need-returns-2
 returns-2 c = let a = c .before .before .before .before .before .before .before .before .before .before .before .before .before .before .before .before .args in
@@ -68,16 +44,5 @@ returns-2 c = let a = c .before .before .before .before .before .before .before 
 pub declare-inner-spec : {M : Type 1} → statement M
 declare-inner-spec =
     tie.close
-    (tie.spec
-    make-local-requires
-    enum-known-l
-    get-type-id-requires
-    enum-told
-    take-id-requires
-    write-aggregate-requires
-    same-length
-    same-length-2
-    returns
-    same-length-3
-    same-length-4
-    returns-2)
+    (tie.spec (λ c κs. search needs) (λ c. search needs) get-type-id-requires (λ c. search needs) (λ c κs. search needs)
+    write-aggregate-requires (λ c. search needs) (λ c. search needs) returns (λ c. search needs) (λ c. search needs) returns-2)

@@ -11,15 +11,6 @@ use Rattle.writer_types.proofs.Whole.{enough, whole}
 use Rattle.writer_types.proofs.write_type_declaration_arena.Statement.{statement}
 use Rattle.writer_types.proofs.write_type_declaration_arena.Tie as tie
 
-body-of-requires : tie.Need-body-of-requires
-body-of-requires c κs = search needs
-
-tag-of-requires : tie.Need-tag-of-requires
-tag-of-requires c κs = search needs
-
-inner-of-requires : tie.Need-inner-of-requires
-inner-of-requires c κs = search needs
-
 declare-inner-requires : tie.Need-declare-inner-requires
 declare-inner-requires c κs = let p = c .before .before .before .before .before .before .before .before .before .before .pre in
     let y = c .before .before .before .before .body-of in
@@ -28,12 +19,6 @@ declare-inner-requires c κs = let p = c .before .before .before .before .before
     let b = y .result .now in
     let m = enough (recordAt (c .before .before .before .before .before .before .before .before .before .before .args .rest .now)) (p .1 .1 .0) (t .result) b (t .ensures) (y .ensures) (innerIn b (i .result)) (i .ensures) in
     (p .0, omega (arith, m, p .1 .1 .1 .rows, p .1 .1 .1 .words))
-
-cast-t19 : tie.Need-cast-t19
-cast-t19 c = search needs
-
-key-requires : tie.Need-key-requires
-key-requires c κs = search needs
 
 enter-type-requires : tie.Need-enter-type-requires
 enter-type-requires c κs = let p = c .before .before .before .before .before .before .before .before .before .before .before .before .before .before .before .before .before .pre in
@@ -55,12 +40,6 @@ name-type-requires c κs = let p = c .before .before .before .before .before .be
     let m = enough (recordAt (c .before .before .before .before .before .before .before .before .before .before .before .before .before .before .before .before .before .before .before .before .before .args .rest .now)) (p .1 .1 .0) (t .result) b (t .ensures) (y .ensures) (innerIn b (i .result)) (i .ensures) in
     omega (arith, m, g .ensures .grown, g .kept .1 .0, c .before .before .before .enter-type .ensures .grown, p .1 .1 .1 .words)
 
-same-length : tie.Need-same-length
-same-length c = search needs
-
-same-length-2 : tie.Need-same-length-2
-same-length-2 c = search needs
-
 returns : tie.Need-returns
 returns c = let a = c .before .before .before .before .before .before .before .before .before .before .before .before .before .before .before .before .before .before .before .before .before .before .before .before .args in
     let p = c .before .before .before .before .before .before .before .before .before .before .before .before .before .before .before .before .before .before .before .before .before .before .before .before .pre in
@@ -79,15 +58,5 @@ returns c = let a = c .before .before .before .before .before .before .before .b
 pub write-type-declaration-arena-spec : {M : Type 1} → statement M
 write-type-declaration-arena-spec =
     tie.close
-    (tie.spec
-    body-of-requires
-    tag-of-requires
-    inner-of-requires
-    declare-inner-requires
-    cast-t19
-    key-requires
-    enter-type-requires
-    name-type-requires
-    same-length
-    same-length-2
-    returns)
+    (tie.spec (λ c κs. search needs) (λ c κs. search needs) (λ c κs. search needs) declare-inner-requires (λ c. search needs)
+    (λ c κs. search needs) enter-type-requires name-type-requires (λ c. search needs) (λ c. search needs) returns)

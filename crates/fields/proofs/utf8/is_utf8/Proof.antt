@@ -20,12 +20,6 @@ loop-holds : tie.Need-loop-holds Inv-loop μ-loop
 unfolding utf8
 loop-holds c = (search needs, refl)
 
-enum-known-q : tie.Need-enum-known-q Inv-loop μ-loop
-enum-known-q c = search needs
-
-enum-told : tie.Need-enum-told Inv-loop μ-loop
-enum-told c = search needs
-
 returns : tie.Need-returns Inv-loop μ-loop
 returns c =
     sym (c .before .before .before .before .before .loop .inv .1 ∙ stops _ _ _ (c .before .before .before .before .loop-test .taken) (ap nextOf (sym (c .enum-told .given .1)) ∙ c .before .before .after .ensures))
@@ -42,16 +36,5 @@ returns-2 c =
 pub is-utf8-spec : {M : Type 1} → statement M
 is-utf8-spec =
     tie.close
-    (tie.spec
-    Inv-loop
-    μ-loop
-    loop-holds
-    (λ c. search needs)
-    (λ c κs. search needs)
-    enum-known-q
-    enum-told
-    returns
-    (λ c. search needs)
-    (λ c. search needs)
-    loop-again
-    returns-2)
+    (tie.spec Inv-loop μ-loop loop-holds (λ c. search needs) (λ c κs. search needs) (λ c. search needs) (λ c. search needs)
+    returns (λ c. search needs) (λ c. search needs) loop-again returns-2)

@@ -12,15 +12,6 @@ use Rattle.sheet.proofs.bodies.ends_differ.Tie as tie
 returns : tie.Need-returns
 returns c e = never e
 
-sub-i : tie.Need-sub-i
-sub-i c = search needs
-
-four-at-requires : tie.Need-four-at-requires
-four-at-requires c κs = search needs
-
-four-at-requires-2 : tie.Need-four-at-requires-2
-four-at-requires-2 c κs = search needs
-
 returns-2 : tie.Need-returns-2
 returns-2 c e =
     let k = c .before .before .before .before .before .before in
@@ -33,4 +24,5 @@ returns-3 : tie.Need-returns-3
 returns-3 c e = never e
 
 pub ends-differ-spec : {M : Type 1} → statement M
-ends-differ-spec = tie.close (tie.spec returns sub-i four-at-requires four-at-requires-2 returns-2 returns-3)
+ends-differ-spec = tie.close
+    (tie.spec returns (λ c. search needs) (λ c κs. search needs) (λ c κs. search needs) returns-2 returns-3)

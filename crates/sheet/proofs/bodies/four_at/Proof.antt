@@ -7,20 +7,11 @@ use Rattle.sheet.specs.Reading.{bytesAt}
 use Rattle.sheet.proofs.bodies.four_at.Statement.{statement}
 use Rattle.sheet.proofs.bodies.four_at.Tie as tie
 
-shared-slice-read-high : tie.Need-shared-slice-read-high
-shared-slice-read-high c = search needs
-
 cast-high : tie.Need-cast-high
 cast-high c = omega (arith, c .shared-slice-known .given (c .before .args .i))
 
 mul-high : tie.Need-mul-high
 mul-high c = omega (arith, c .shared-slice-known .given (c .before .args .i))
-
-add-high : tie.Need-add-high
-add-high c = search needs
-
-shared-slice-read-high-2 : tie.Need-shared-slice-read-high-2
-shared-slice-read-high-2 c = search needs
 
 cast-high-2 : tie.Need-cast-high-2
 cast-high-2 c = omega (arith, c .shared-slice-known2 .given (c .before .before .args .i + 1))
@@ -31,12 +22,6 @@ add-high-2 c = let i = c .before .before .args .i in omega (arith, c .shared-sli
 mul-high-2 : tie.Need-mul-high-2
 mul-high-2 c = let i = c .before .before .args .i in omega (arith, c .shared-slice-known2 .given i, c .shared-slice-known2 .given (i + 1))
 
-add-high-3 : tie.Need-add-high-3
-add-high-3 c = search needs
-
-shared-slice-read-high-3 : tie.Need-shared-slice-read-high-3
-shared-slice-read-high-3 c = search needs
-
 cast-high-3 : tie.Need-cast-high-3
 cast-high-3 c = omega (arith, c .shared-slice-known3 .given (c .before .before .before .args .i + 2))
 
@@ -45,12 +30,6 @@ add-high-4 c = let i = c .before .before .before .args .i in omega (arith, c .sh
 
 mul-result : tie.Need-mul-result
 mul-result c = let i = c .before .before .before .args .i in omega (arith, c .shared-slice-known3 .given i, c .shared-slice-known3 .given (i + 1), c .shared-slice-known3 .given (i + 2))
-
-add-result : tie.Need-add-result
-add-result c = search needs
-
-shared-slice-read-result : tie.Need-shared-slice-read-result
-shared-slice-read-result c = search needs
 
 cast-result : tie.Need-cast-result
 cast-result c = omega (arith, c .shared-slice-known4 .given (c .before .before .before .before .args .i + 3))
@@ -65,22 +44,6 @@ returns c = rw (add-zero (c .before .before .before .before .args .i)) (omega ar
 pub four-at-spec : {M : Type 1} → statement M
 four-at-spec =
     tie.close
-    (tie.spec
-    shared-slice-read-high
-    cast-high
-    mul-high
-    add-high
-    shared-slice-read-high-2
-    cast-high-2
-    add-high-2
-    mul-high-2
-    add-high-3
-    shared-slice-read-high-3
-    cast-high-3
-    add-high-4
-    mul-result
-    add-result
-    shared-slice-read-result
-    cast-result
-    add-result-2
-    returns)
+    (tie.spec (λ c. search needs) cast-high mul-high (λ c. search needs) (λ c. search needs) cast-high-2 add-high-2 mul-high-2
+    (λ c. search needs) (λ c. search needs) cast-high-3 add-high-4 mul-result (λ c. search needs) (λ c. search needs) cast-result
+    add-result-2 returns)

@@ -20,35 +20,14 @@ abbrev μ-loop : tie.MeasureT-loop
 loop-holds : tie.Need-loop-holds Inv-loop μ-loop
 loop-holds c = (search needs, refl)
 
-four-at-requires : tie.Need-four-at-requires Inv-loop μ-loop
-four-at-requires c κs = search needs
-
-four-at-requires-2 : tie.Need-four-at-requires-2 Inv-loop μ-loop
-four-at-requires-2 c κs = search needs
-
 returns : tie.Need-returns Inv-loop μ-loop
 returns c = let a = c .before .before .before .before .before .before .before .before .args in sym (c .before .before .before .before .before .loop .inv .1 ∙ bytes-differ (now (a .a)) (now (a .b)) (λ i. omega (arith, c .before .before .before .before .before .before .before .shared-slice-known .given i)) (λ i. omega (arith, c .before .before .before .before .before .before .shared-slice-known2 .given i)) (c .before .before .before .before .before .loop .j) 4 (c .before .before .before .if1 .taken) (omega (arith, c .before .before .before .before .before .before .before .before .pre .0)) (omega (arith, c .before .before .before .before .before .before .before .before .pre .1 .0)) (λ e. c .if2 .taken (c .before .before .four-at .ensures ∙ e ∙ sym (c .before .four-at2 .ensures))))
-
-loop-less : tie.Need-loop-less Inv-loop μ-loop
-loop-less c = search needs
 
 loop-again : tie.Need-loop-again Inv-loop μ-loop
 loop-again c = let a = c .before .before .before .before .before .before .before .before .args in (search needs, c .before .before .before .before .before .loop .inv .1 ∙ bytes-same (now (a .a)) (now (a .b)) (λ i. omega (arith, c .before .before .before .before .before .before .before .shared-slice-known .given i)) (λ i. omega (arith, c .before .before .before .before .before .before .shared-slice-known2 .given i)) (c .before .before .before .before .before .loop .j) 4 (c .before .before .before .if1 .taken) (omega (arith, c .before .before .before .before .before .before .before .before .pre .0)) (omega (arith, c .before .before .before .before .before .before .before .before .pre .1 .0)) (sym (c .before .before .four-at .ensures) ∙ c .if2 .left ∙ c .before .four-at2 .ensures))
 
-sub-j : tie.Need-sub-j Inv-loop μ-loop
-sub-j c = search needs
-
-shared-slice-read-if3 : tie.Need-shared-slice-read-if3 Inv-loop μ-loop
-shared-slice-read-if3 c = search needs
-
-shared-slice-read-if3-2 : tie.Need-shared-slice-read-if3-2 Inv-loop μ-loop
-shared-slice-read-if3-2 c = search needs
-
 returns-2 : tie.Need-returns-2 Inv-loop μ-loop
 returns-2 c = let a = c .before .before .before .before .before .before .before .before .args in let i = c .before .before .before .before .before .loop .j - 1 in sym (c .before .before .before .before .before .loop .inv .1 ∙ bytes-differ (now (a .a)) (now (a .b)) (λ i. omega (arith, c .before .before .before .before .before .before .before .shared-slice-known .given i)) (λ i. omega (arith, c .before .before .before .before .before .before .shared-slice-known2 .given i)) (c .before .before .before .before .before .loop .j) 1 (omega arith) (omega (arith, c .before .before .before .before .before .before .before .before .pre .0)) (omega (arith, c .before .before .before .before .before .before .before .before .pre .1 .0)) (λ e. c .if3 .taken (sym (one (now (a .a)) i) ∙ e ∙ one (now (a .b)) i)))
-
-loop-less-2 : tie.Need-loop-less-2 Inv-loop μ-loop
-loop-less-2 c = search needs
 
 loop-again-2 : tie.Need-loop-again-2 Inv-loop μ-loop
 loop-again-2 c = let a = c .before .before .before .before .before .before .before .before .args in let i = c .before .before .before .before .before .loop .j - 1 in (search needs, c .before .before .before .before .before .loop .inv .1 ∙ bytes-same (now (a .a)) (now (a .b)) (λ i. omega (arith, c .before .before .before .before .before .before .before .shared-slice-known .given i)) (λ i. omega (arith, c .before .before .before .before .before .before .shared-slice-known2 .given i)) (c .before .before .before .before .before .loop .j) 1 (omega arith) (omega (arith, c .before .before .before .before .before .before .before .before .pre .0)) (omega (arith, c .before .before .before .before .before .before .before .before .pre .1 .0)) (one (now (a .a)) i ∙ c .if3 .left ∙ sym (one (now (a .b)) i)))
@@ -59,19 +38,5 @@ returns-3 c = let a = c .before .before .before .before .args in sym (c .before 
 pub same-up-to-spec : {M : Type 1} → statement M
 same-up-to-spec =
     tie.close
-    (tie.spec
-    Inv-loop
-    μ-loop
-    loop-holds
-    four-at-requires
-    four-at-requires-2
-    returns
-    loop-less
-    loop-again
-    sub-j
-    shared-slice-read-if3
-    shared-slice-read-if3-2
-    returns-2
-    loop-less-2
-    loop-again-2
-    returns-3)
+    (tie.spec Inv-loop μ-loop loop-holds (λ c κs. search needs) (λ c κs. search needs) returns (λ c. search needs) loop-again
+    (λ c. search needs) (λ c. search needs) (λ c. search needs) returns-2 (λ c. search needs) loop-again-2 returns-3)

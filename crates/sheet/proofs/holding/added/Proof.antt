@@ -5,18 +5,6 @@ use Rattle.sheet.specs.Holding.{addCounts}
 use Rattle.sheet.proofs.holding.added.Statement.{statement}
 use Rattle.sheet.proofs.holding.added.Tie as tie
 
-add-k : tie.Need-add-k
-add-k c = search needs
-
-add-k-2 : tie.Need-add-k-2
-add-k-2 c = search needs
-
-add-k-3 : tie.Need-add-k-3
-add-k-3 c = search needs
-
-add-k-4 : tie.Need-add-k-4
-add-k-4 c = search needs
-
 returns : tie.Need-returns
 unfolding addCounts
 returns c = simp (c .match .keys1)
@@ -44,14 +32,5 @@ returns-6 c = simp (ne-eqb _ _ (c .match .rest .0 .0 .0 .0 .1), ne-eqb _ _ (c .m
 pub added-spec : {M : Type 1} → statement M
 added-spec =
     tie.close
-    (tie.spec
-    add-k
-    add-k-2
-    add-k-3
-    add-k-4
-    returns
-    returns-2
-    returns-3
-    returns-4
-    returns-5
-    returns-6)
+    (tie.spec (λ c. search needs) (λ c. search needs) (λ c. search needs) (λ c. search needs) returns returns-2 returns-3
+    returns-4 returns-5 returns-6)

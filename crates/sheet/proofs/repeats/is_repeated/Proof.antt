@@ -5,15 +5,6 @@ use Rattle.definition.specs.Sheet.{entryOf}
 use Rattle.sheet.proofs.repeats.is_repeated.Statement.{statement}
 use Rattle.sheet.proofs.repeats.is_repeated.Tie as tie
 
-rank-of-requires : tie.Need-rank-of-requires
-rank-of-requires c κs = search needs
-
-remap-read-requires : tie.Need-remap-read-requires
-remap-read-requires c κs = search needs
-
-type-read-requires : tie.Need-type-read-requires
-type-read-requires c κs = search needs
-
 returns : tie.Need-returns
 unfolding entryOf
 returns c = λ n l. simp (← c .before .rank-of .ensures, c .match .keys1)
@@ -37,12 +28,4 @@ returns-5 c = λ n l. simp (← c .before .rank-of .ensures, ne-eqb _ _ (c .matc
 pub is-repeated-spec : {M : Type 1} → statement M
 is-repeated-spec =
     tie.close
-    (tie.spec
-    rank-of-requires
-    remap-read-requires
-    type-read-requires
-    returns
-    returns-2
-    returns-3
-    returns-4
-    returns-5)
+    (tie.spec (λ c κs. search needs) (λ c κs. search needs) (λ c κs. search needs) returns returns-2 returns-3 returns-4 returns-5)

@@ -25,32 +25,8 @@ abbrev μ-entries : tie.MeasureT-entries
 entries-holds : tie.Need-entries-holds Inv-entries μ-entries
 entries-holds c = (search needs, (refl, refl))
 
-mul-rest-at : tie.Need-mul-rest-at Inv-entries μ-entries
-mul-rest-at c = search needs
-
-shared-slice-read-rest-at : tie.Need-shared-slice-read-rest-at Inv-entries μ-entries
-shared-slice-read-rest-at c = search needs
-
 cast-rest-at : tie.Need-cast-rest-at Inv-entries μ-entries
 cast-rest-at c = omega (arith, c .shared-slice-known4 .given (c .before .before .entries .k))
-
-rest-at-requires : tie.Need-rest-at-requires Inv-entries μ-entries
-rest-at-requires c κs = search needs
-
-body-of-requires : tie.Need-body-of-requires Inv-entries μ-entries
-body-of-requires c κs = search needs
-
-add-k : tie.Need-add-k Inv-entries μ-entries
-add-k c = search needs
-
-u32-at-requires : tie.Need-u32-at-requires Inv-entries μ-entries
-u32-at-requires c κs = search needs
-
-u32-at-requires-2 : tie.Need-u32-at-requires-2 Inv-entries μ-entries
-u32-at-requires-2 c κs = search needs
-
-entries-less : tie.Need-entries-less Inv-entries μ-entries
-entries-less c = search needs
 
 entries-again : tie.Need-entries-again Inv-entries μ-entries
 unfolding remapFields
@@ -59,15 +35,6 @@ entries-again c =
     let l = c .before .before .before .before .before .before .before .entries in
     let body = c .before .before .before .body-of .ensures ∙ ap (λ (y : List ℕ). recordAt y .body) (c .before .before .before .before .rest-at .ensures) in
     (search needs, (l .inv .1 .0, l .inv .1 .1 ∙ skip (search-remaps (now (a .s)) (remapFields (now (a .b)) .value)) (now (a .remaps)) (a .n) (l .k) (c .before .before .before .before .before .before .before .before .before .before .before .pre) (c .before .before .before .before .before .before .entries-test .taken) (simp (← body, ← c .before .before .u32-at .ensures, ← c .before .u32-at2 .ensures, ne-eqb _ _ (c .if1 .taken)))))
-
-u32-at-requires-3 : tie.Need-u32-at-requires-3 Inv-entries μ-entries
-u32-at-requires-3 c κs = search needs
-
-u32-at-requires-4 : tie.Need-u32-at-requires-4 Inv-entries μ-entries
-u32-at-requires-4 c κs = search needs
-
-entries-less-2 : tie.Need-entries-less-2 Inv-entries μ-entries
-entries-less-2 c = search needs
 
 entries-again-2 : tie.Need-entries-again-2 Inv-entries μ-entries
 unfolding remapFields
@@ -93,23 +60,6 @@ returns-2 c =
 pub remap-read-spec : {M : Type 1} → statement M
 remap-read-spec =
     tie.close
-    (tie.spec
-    Inv-entries
-    μ-entries
-    entries-holds
-    mul-rest-at
-    shared-slice-read-rest-at
-    cast-rest-at
-    rest-at-requires
-    body-of-requires
-    add-k
-    u32-at-requires
-    u32-at-requires-2
-    entries-less
-    entries-again
-    u32-at-requires-3
-    u32-at-requires-4
-    entries-less-2
-    entries-again-2
-    returns
-    returns-2)
+    (tie.spec Inv-entries μ-entries entries-holds (λ c. search needs) (λ c. search needs) cast-rest-at (λ c κs. search needs)
+    (λ c κs. search needs) (λ c. search needs) (λ c κs. search needs) (λ c κs. search needs) (λ c. search needs) entries-again
+    (λ c κs. search needs) (λ c κs. search needs) (λ c. search needs) entries-again-2 returns returns-2)

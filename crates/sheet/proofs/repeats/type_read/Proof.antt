@@ -57,51 +57,17 @@ body-is c = c .body-of .ensures ∙ ap (λ r. recordAt r .body) (c .before .befo
 other : (c : tie.After-body-of Inv-loop μ-loop Inv-entries μ-entries) → sameBytes (now (c .body-of .result)) (sought (c .before .before .before .before .before) .body) ≡ false → sameRecord (here (c .before .before .before .before .before)) (sought (c .before .before .before .before .before)) ≡ false
 other c e = other-body _ _ (ap (λ (z : List ℕ). sameBytes z (sought (c .before .before .before .before .before) .body)) (sym (body-is c)) ∙ e)
 
-fixed-end-requires : tie.Need-fixed-end-requires Inv-loop μ-loop Inv-entries μ-entries
-fixed-end-requires c κs = search needs
-
 entries-holds : tie.Need-entries-holds Inv-loop μ-loop Inv-entries μ-entries
 entries-holds c = (search needs, (refl, refl))
-
-mul-rest-at : tie.Need-mul-rest-at Inv-loop μ-loop Inv-entries μ-entries
-mul-rest-at c = search needs
-
-shared-slice-read-rest-at :
-    tie.Need-shared-slice-read-rest-at Inv-loop μ-loop Inv-entries μ-entries
-shared-slice-read-rest-at c = search needs
 
 cast-rest-at : tie.Need-cast-rest-at Inv-loop μ-loop Inv-entries μ-entries
 cast-rest-at c = omega (arith, c .shared-slice-known4 .given (c .before .before .entries .i))
 
-rest-at-requires : tie.Need-rest-at-requires Inv-loop μ-loop Inv-entries μ-entries
-rest-at-requires c κs = search needs
-
-add-i : tie.Need-add-i Inv-loop μ-loop Inv-entries μ-entries
-add-i c = search needs
-
-tag-of-requires : tie.Need-tag-of-requires Inv-loop μ-loop Inv-entries μ-entries
-tag-of-requires c κs = search needs
-
-entries-less : tie.Need-entries-less Inv-loop μ-loop Inv-entries μ-entries
-entries-less c = search needs
-
 entries-again : tie.Need-entries-again Inv-loop μ-loop Inv-entries μ-entries
 entries-again c = (search needs, (c .before .before .before .before .before .entries .inv .1 .0, skips (c .before .before .before .before) (other-tag _ _ (λ q. c .if1 .taken (c .before .tag-of .ensures ∙ ap (λ r. recordAt r .tag) (c .before .before .rest-at .ensures) ∙ q)))))
 
-body-of-requires : tie.Need-body-of-requires Inv-loop μ-loop Inv-entries μ-entries
-body-of-requires c κs = search needs
-
-entries-less-2 : tie.Need-entries-less-2 Inv-loop μ-loop Inv-entries μ-entries
-entries-less-2 c = search needs
-
 entries-again-2 : tie.Need-entries-again-2 Inv-loop μ-loop Inv-entries μ-entries
 entries-again-2 c = (search needs, (c .before .before .before .before .before .before .before .entries .inv .1 .0, skips (c .before .before .before .before .before .before) (other (c .before) (other-length _ _ (c .if2 .taken)))))
-
-ends-differ-requires : tie.Need-ends-differ-requires Inv-loop μ-loop Inv-entries μ-entries
-ends-differ-requires c κs = search needs
-
-entries-less-3 : tie.Need-entries-less-3 Inv-loop μ-loop Inv-entries μ-entries
-entries-less-3 c = search needs
 
 entries-again-3 : tie.Need-entries-again-3 Inv-loop μ-loop Inv-entries μ-entries
 entries-again-3 c = (search needs, (c .before .before .before .before .before .before .before .before .before .entries .inv .1 .0, skips (c .before .before .before .before .before .before .before .before) (other (c .before .before .before) (c .before .ends-differ .ensures (c .if3 .taken)))))
@@ -110,29 +76,17 @@ same-up-to-requires : tie.Need-same-up-to-requires Inv-loop μ-loop Inv-entries 
 unfolding sameBytes
 same-up-to-requires c κs = (omega (arith, c .before .before .before .before .before .before .before .before .before .before .fixed-end .ensures, c .before .before .if2 .left), (c .before .before .before .before .before .before .before .before .before .before .fixed-end .ensures, refl))
 
-entries-less-4 : tie.Need-entries-less-4 Inv-loop μ-loop Inv-entries μ-entries
-entries-less-4 c = search needs
-
 entries-again-4 : tie.Need-entries-again-4 Inv-loop μ-loop Inv-entries μ-entries
 entries-again-4 c = (search needs, (c .before .before .before .before .before .before .before .before .before .before .before .entries .inv .1 .0, skips (c .before .before .before .before .before .before .before .before .before .before) (other (c .before .before .before .before .before) (part-differs _ _ (c .before .before .before .before .before .before .before .before .before .before .before .before .fixed-end .result) (sym (c .before .same-up-to .ensures) ∙ not-true _ (c .if4 .taken))))))
 
 loop-holds : tie.Need-loop-holds Inv-loop μ-loop Inv-entries μ-entries
 loop-holds c = (c .before .before .before .before .before .before .before .before .before .before .before .before .fixed-end .ensures, (c .before .before .before .before .if2 .left, sym (c .before .same-up-to .ensures) ∙ not-false _ (c .if4 .left)))
 
-member-end-requires : tie.Need-member-end-requires Inv-loop μ-loop Inv-entries μ-entries
-member-end-requires c κs = search needs
-
 same-up-to-requires-2 : tie.Need-same-up-to-requires-2 Inv-loop μ-loop Inv-entries μ-entries
 same-up-to-requires-2 c κs = (omega (arith, c .member-end .ensures .1, c .before .before .loop .inv .1 .0), (c .member-end .ensures .1, c .before .before .loop .inv .1 .1))
 
-entries-less-5 : tie.Need-entries-less-5 Inv-loop μ-loop Inv-entries μ-entries
-entries-less-5 c = search needs
-
 entries-again-5 : tie.Need-entries-again-5 Inv-loop μ-loop Inv-entries μ-entries
 entries-again-5 c = (search needs, (c .before .before .before .before .before .before .before .before .before .before .before .before .before .before .before .before .entries .inv .1 .0, skips (c .before .before .before .before .before .before .before .before .before .before .before .before .before .before .before) (other (c .before .before .before .before .before .before .before .before .before .before) (part-differs _ _ (c .before .before .member-end .result) (sym (c .before .same-up-to2 .ensures) ∙ not-true _ (c .if5 .taken))))))
-
-loop-less : tie.Need-loop-less Inv-loop μ-loop Inv-entries μ-entries
-loop-less c = search needs
 
 loop-again : tie.Need-loop-again Inv-loop μ-loop Inv-entries μ-entries
 loop-again c = (c .before .before .member-end .ensures .1, (c .before .before .before .before .loop .inv .1 .0, sym (c .before .same-up-to2 .ensures) ∙ not-false _ (c .if5 .left)))
@@ -149,36 +103,8 @@ returns-2 c = let k = c .before .before .before .before .before .before .before 
 pub type-read-spec : {M : Type 1} → statement M
 type-read-spec =
     tie.close
-    (tie.spec
-    Inv-loop
-    μ-loop
-    Inv-entries
-    μ-entries
-    fixed-end-requires
-    entries-holds
-    mul-rest-at
-    shared-slice-read-rest-at
-    cast-rest-at
-    rest-at-requires
-    add-i
-    tag-of-requires
-    entries-less
-    entries-again
-    body-of-requires
-    entries-less-2
-    entries-again-2
-    ends-differ-requires
-    entries-less-3
-    entries-again-3
-    same-up-to-requires
-    entries-less-4
-    entries-again-4
-    loop-holds
-    member-end-requires
-    same-up-to-requires-2
-    entries-less-5
-    entries-again-5
-    loop-less
-    loop-again
-    returns
-    returns-2)
+    (tie.spec Inv-loop μ-loop Inv-entries μ-entries (λ c κs. search needs) entries-holds (λ c. search needs) (λ c. search needs)
+    cast-rest-at (λ c κs. search needs) (λ c. search needs) (λ c κs. search needs) (λ c. search needs) entries-again
+    (λ c κs. search needs) (λ c. search needs) entries-again-2 (λ c κs. search needs) (λ c. search needs) entries-again-3
+    same-up-to-requires (λ c. search needs) entries-again-4 loop-holds (λ c κs. search needs) same-up-to-requires-2
+    (λ c. search needs) entries-again-5 (λ c. search needs) loop-again returns returns-2)

@@ -5,21 +5,6 @@ use Rattle.definition.specs.Sheet.{constantFields}
 use Rattle.sheet_fields.proofs.constants.end_of.Statement.{statement}
 use Rattle.sheet_fields.proofs.constants.end_of.Tie as tie
 
-literal-end-requires : tie.Need-literal-end-requires
-literal-end-requires c κs = search needs
-
-u16-at-requires : tie.Need-u16-at-requires
-u16-at-requires c κs = search needs
-
-cast-result : tie.Need-cast-result
-cast-result c = search needs
-
-mul-result : tie.Need-mul-result
-mul-result c = search needs
-
-add-result : tie.Need-add-result
-add-result c = search needs
-
 returns : tie.Need-returns
 unfolding constantFields
 returns c = simp (c .before .match .keys1) cc
@@ -43,14 +28,5 @@ returns-5 c = simp (ne-eqb _ _ (c .match .rest .0 .0 .0 .1), ne-eqb _ _ (c .matc
 pub end-of-spec : {M : Type 1} → statement M
 end-of-spec =
     tie.close
-    (tie.spec
-    literal-end-requires
-    u16-at-requires
-    cast-result
-    mul-result
-    add-result
-    returns
-    returns-2
-    returns-3
-    returns-4
-    returns-5)
+    (tie.spec (λ c κs. search needs) (λ c κs. search needs) (λ c. search needs) (λ c. search needs) (λ c. search needs) returns
+    returns-2 returns-3 returns-4 returns-5)

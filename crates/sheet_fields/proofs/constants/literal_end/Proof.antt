@@ -5,9 +5,6 @@ use Rattle.definition.specs.Sheet.{literalFields}
 use Rattle.sheet_fields.proofs.constants.literal_end.Statement.{statement}
 use Rattle.sheet_fields.proofs.constants.literal_end.Tie as tie
 
-u8-at-requires : tie.Need-u8-at-requires
-u8-at-requires c κs = search needs
-
 returns : tie.Need-returns
 unfolding literalFields
 returns c = simp (← c .before .u8-at .ensures, c .match .keys1) cc
@@ -30,4 +27,4 @@ returns-5 c = simp (← c .before .u8-at .ensures, ne-eqb _ _ (c .match .rest .0
 
 pub literal-end-spec : {M : Type 1} → statement M
 literal-end-spec =
-    tie.close (tie.spec u8-at-requires returns returns-2 returns-3 returns-4 returns-5)
+    tie.close (tie.spec (λ c κs. search needs) returns returns-2 returns-3 returns-4 returns-5)

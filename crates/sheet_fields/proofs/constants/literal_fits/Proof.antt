@@ -5,12 +5,6 @@ use Rattle.definition.specs.Sheet.{literalFields}
 use Rattle.sheet_fields.proofs.constants.literal_fits.Statement.{statement}
 use Rattle.sheet_fields.proofs.constants.literal_fits.Tie as tie
 
-u8-at-requires : tie.Need-u8-at-requires
-u8-at-requires c κs = search needs
-
-u8-at-requires-2 : tie.Need-u8-at-requires-2
-u8-at-requires-2 c κs = search needs
-
 returns : tie.Need-returns
 unfolding literalFields
 returns c = simp (← c .before .u8-at .ensures, c .match .keys1) cc
@@ -33,5 +27,4 @@ returns-5 c = simp (← c .before .before .u8-at .ensures, ne-eqb _ _ (c .before
 
 pub literal-fits-spec : {M : Type 1} → statement M
 literal-fits-spec =
-    tie.close
-    (tie.spec u8-at-requires u8-at-requires-2 returns returns-2 returns-3 returns-4 returns-5)
+    tie.close (tie.spec (λ c κs. search needs) (λ c κs. search needs) returns returns-2 returns-3 returns-4 returns-5)

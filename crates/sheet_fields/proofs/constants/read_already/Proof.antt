@@ -7,18 +7,6 @@ use mathlib.Core.Bool.{and-true}
 use Rattle.sheet_fields.proofs.constants.read_already.Statement.{statement}
 use Rattle.sheet_fields.proofs.constants.read_already.Tie as tie
 
-one-below-requires : tie.Need-one-below-requires
-one-below-requires c κs = search needs
-
-one-below-requires-2 : tie.Need-one-below-requires-2
-one-below-requires-2 c κs = search needs
-
-compose-read-requires : tie.Need-compose-read-requires
-compose-read-requires c κs = search needs
-
-one-below-requires-3 : tie.Need-one-below-requires-3
-one-below-requires-3 c κs = search needs
-
 returns : tie.Need-returns
 unfolding constantFields
 returns c = simp (c .match .keys1) cc
@@ -42,13 +30,5 @@ returns-5 c = simp (ne-eqb _ _ (c .before .match .rest .0 .0 .0 .1), ne-eqb _ _ 
 pub read-already-spec : {M : Type 1} → statement M
 read-already-spec =
     tie.close
-    (tie.spec
-    one-below-requires
-    one-below-requires-2
-    compose-read-requires
-    one-below-requires-3
-    returns
-    returns-2
-    returns-3
-    returns-4
-    returns-5)
+    (tie.spec (λ c κs. search needs) (λ c κs. search needs) (λ c κs. search needs) (λ c κs. search needs) returns returns-2
+    returns-3 returns-4 returns-5)

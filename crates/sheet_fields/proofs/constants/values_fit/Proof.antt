@@ -5,15 +5,6 @@ use Rattle.definition.specs.Sheet.{constantFields}
 use Rattle.sheet_fields.proofs.constants.values_fit.Statement.{statement}
 use Rattle.sheet_fields.proofs.constants.values_fit.Tie as tie
 
-literal-fits-requires : tie.Need-literal-fits-requires
-literal-fits-requires c κs = search needs
-
-u8-at-requires : tie.Need-u8-at-requires
-u8-at-requires c κs = search needs
-
-size-fits-requires : tie.Need-size-fits-requires
-size-fits-requires c κs = search needs
-
 returns : tie.Need-returns
 unfolding constantFields
 returns c = simp (c .before .match .keys1) cc
@@ -37,12 +28,4 @@ returns-5 c = simp (ne-eqb _ _ (c .before .before .match .rest .0 .0 .0 .1), ne-
 pub values-fit-spec : {M : Type 1} → statement M
 values-fit-spec =
     tie.close
-    (tie.spec
-    literal-fits-requires
-    u8-at-requires
-    size-fits-requires
-    returns
-    returns-2
-    returns-3
-    returns-4
-    returns-5)
+    (tie.spec (λ c κs. search needs) (λ c κs. search needs) (λ c κs. search needs) returns returns-2 returns-3 returns-4 returns-5)

@@ -7,24 +7,6 @@ use Rattle.definition.specs.Sheet.{globalFields}
 use Rattle.sheet_fields.proofs.globals.binding_fits.Statement.{statement}
 use Rattle.sheet_fields.proofs.globals.binding_fits.Tie as tie
 
-add-u8-at : tie.Need-add-u8-at
-add-u8-at c = search needs
-
-u8-at-requires : tie.Need-u8-at-requires
-u8-at-requires c κs = search needs
-
-add-u32-at : tie.Need-add-u32-at
-add-u32-at c = search needs
-
-u32-at-requires : tie.Need-u32-at-requires
-u32-at-requires c κs = search needs
-
-add-u32-at-2 : tie.Need-add-u32-at-2
-add-u32-at-2 c = search needs
-
-u32-at-requires-2 : tie.Need-u32-at-requires-2
-u32-at-requires-2 c κs = search needs
-
 returns : tie.Need-returns
 unfolding bindingFits globalFields
 returns c = simp (← c .before .before .before .before .u8-at .ensures, c .before .before .before .match .keys1, ← c .before .before .u32-at .ensures, c .before .if1 .taken, ← c .u32-at2 .ensures)
@@ -44,14 +26,5 @@ returns-4 c = let k = c .before .u8-at .result in simp (← c .before .u8-at .en
 pub binding-fits-spec : {M : Type 1} → statement M
 binding-fits-spec =
     tie.close
-    (tie.spec
-    add-u8-at
-    u8-at-requires
-    add-u32-at
-    u32-at-requires
-    add-u32-at-2
-    u32-at-requires-2
-    returns
-    returns-2
-    returns-3
-    returns-4)
+    (tie.spec (λ c. search needs) (λ c κs. search needs) (λ c. search needs) (λ c κs. search needs) (λ c. search needs)
+    (λ c κs. search needs) returns returns-2 returns-3 returns-4)

@@ -21,29 +21,11 @@ abbrev μ-loop : tie.MeasureT-loop
 loop-holds : tie.Need-loop-holds Inv-loop μ-loop
 loop-holds c = (search needs, refl)
 
-add-name-fits : tie.Need-add-name-fits Inv-loop μ-loop
-add-name-fits c = search needs
-
-name-fits-requires : tie.Need-name-fits-requires Inv-loop μ-loop
-name-fits-requires c κs = search needs
-
 returns : tie.Need-returns Inv-loop μ-loop
 returns c =
     let b = now (c .before .before .before .before .before .args .b) in
     let l = c .before .before .before .loop in
     sym (l .inv .1 ∙ each-no (names b) (l .p) (l .k) (c .before .before .loop-test .taken) (sym (c .before .name-fits .ensures) ∙ not-true _ (c .if1 .taken)))
-
-add-name-end : tie.Need-add-name-end Inv-loop μ-loop
-add-name-end c = search needs
-
-name-end-requires : tie.Need-name-end-requires Inv-loop μ-loop
-name-end-requires c κs = search needs
-
-sub-k : tie.Need-sub-k Inv-loop μ-loop
-sub-k c = search needs
-
-loop-less : tie.Need-loop-less Inv-loop μ-loop
-loop-less c = search needs
 
 loop-again : tie.Need-loop-again Inv-loop μ-loop
 loop-again c =
@@ -57,16 +39,5 @@ returns-2 c = let l = c .before .loop in sym (l .inv .1 ∙ each-end (names (now
 pub names-fit-spec : {M : Type 1} → statement M
 names-fit-spec =
     tie.close
-    (tie.spec
-    Inv-loop
-    μ-loop
-    loop-holds
-    add-name-fits
-    name-fits-requires
-    returns
-    add-name-end
-    name-end-requires
-    sub-k
-    loop-less
-    loop-again
-    returns-2)
+    (tie.spec Inv-loop μ-loop loop-holds (λ c. search needs) (λ c κs. search needs) returns (λ c. search needs)
+    (λ c κs. search needs) (λ c. search needs) (λ c. search needs) loop-again returns-2)

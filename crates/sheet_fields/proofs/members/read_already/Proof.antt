@@ -20,29 +20,11 @@ abbrev μ-loop : tie.MeasureT-loop
 loop-holds : tie.Need-loop-holds Inv-loop μ-loop
 loop-holds c = (search needs, refl)
 
-u16-at-requires : tie.Need-u16-at-requires Inv-loop μ-loop
-u16-at-requires c κs = search needs
-
-cast-if1 : tie.Need-cast-if1 Inv-loop μ-loop
-cast-if1 c = search needs
-
 returns : tie.Need-returns Inv-loop μ-loop
 returns c =
     let a = c .before .before .before .before .before .args in
     let l = c .before .before .before .loop in
     sym (l .inv .1 ∙ each-no (walk (now (a .b)) (λ x. ltb x (a .types))) (l .p) (l .k) (c .before .before .loop-test .taken) (simp (← c .before .u16-at .ensures) (le-ltb _ _ (c .if1 .taken))))
-
-add-name-end : tie.Need-add-name-end Inv-loop μ-loop
-add-name-end c = search needs
-
-name-end-requires : tie.Need-name-end-requires Inv-loop μ-loop
-name-end-requires c κs = search needs
-
-sub-k : tie.Need-sub-k Inv-loop μ-loop
-sub-k c = search needs
-
-loop-less : tie.Need-loop-less Inv-loop μ-loop
-loop-less c = search needs
 
 loop-again : tie.Need-loop-again Inv-loop μ-loop
 loop-again c =
@@ -59,16 +41,5 @@ returns-2 c =
 pub read-already-spec : {M : Type 1} → statement M
 read-already-spec =
     tie.close
-    (tie.spec
-    Inv-loop
-    μ-loop
-    loop-holds
-    u16-at-requires
-    cast-if1
-    returns
-    add-name-end
-    name-end-requires
-    sub-k
-    loop-less
-    loop-again
-    returns-2)
+    (tie.spec Inv-loop μ-loop loop-holds (λ c κs. search needs) (λ c. search needs) returns (λ c. search needs)
+    (λ c κs. search needs) (λ c. search needs) (λ c. search needs) loop-again returns-2)

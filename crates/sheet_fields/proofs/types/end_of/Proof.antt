@@ -5,48 +5,6 @@ use Rattle.definition.specs.Sheet.{typeFields}
 use Rattle.sheet_fields.proofs.types.end_of.Statement.{statement}
 use Rattle.sheet_fields.proofs.types.end_of.Tie as tie
 
-add-result : tie.Need-add-result
-add-result c = search needs
-
-add-result-2 : tie.Need-add-result-2
-add-result-2 c = search needs
-
-add-result-3 : tie.Need-add-result-3
-add-result-3 c = search needs
-
-add-result-4 : tie.Need-add-result-4
-add-result-4 c = search needs
-
-add-result-5 : tie.Need-add-result-5
-add-result-5 c = search needs
-
-add-result-6 : tie.Need-add-result-6
-add-result-6 c = search needs
-
-add-result-7 : tie.Need-add-result-7
-add-result-7 c = search needs
-
-add-end-of : tie.Need-add-end-of
-add-end-of c = search needs
-
-add-u8-at : tie.Need-add-u8-at
-add-u8-at c = search needs
-
-u8-at-requires : tie.Need-u8-at-requires
-u8-at-requires c κs = search needs
-
-end-of-requires : tie.Need-end-of-requires
-end-of-requires c κs = search needs
-
-add-result-8 : tie.Need-add-result-8
-add-result-8 c = search needs
-
-add-result-9 : tie.Need-add-result-9
-add-result-9 c = search needs
-
-add-result-10 : tie.Need-add-result-10
-add-result-10 c = search needs
-
 returns : tie.Need-returns
 unfolding typeFields
 returns c = simp (c .match .keys1) cc
@@ -102,31 +60,7 @@ returns-13 c = simp (ne-eqb _ _ (c .match .rest .0 .0 .0 .0 .0 .0 .0 .0 .0 .0 .0
 pub end-of-spec : {M : Type 1} → statement M
 end-of-spec =
     tie.close
-    (tie.spec
-    add-result
-    add-result-2
-    add-result-3
-    add-result-4
-    add-result-5
-    add-result-6
-    add-result-7
-    add-end-of
-    add-u8-at
-    u8-at-requires
-    end-of-requires
-    add-result-8
-    add-result-9
-    add-result-10
-    returns
-    returns-2
-    returns-3
-    returns-4
-    returns-5
-    returns-6
-    returns-7
-    returns-8
-    returns-9
-    returns-10
-    returns-11
-    returns-12
-    returns-13)
+    (tie.spec (λ c. search needs) (λ c. search needs) (λ c. search needs) (λ c. search needs) (λ c. search needs)
+    (λ c. search needs) (λ c. search needs) (λ c. search needs) (λ c. search needs) (λ c κs. search needs) (λ c κs. search needs)
+    (λ c. search needs) (λ c. search needs) (λ c. search needs) returns returns-2 returns-3 returns-4 returns-5 returns-6
+    returns-7 returns-8 returns-9 returns-10 returns-11 returns-12 returns-13)

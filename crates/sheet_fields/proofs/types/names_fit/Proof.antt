@@ -6,18 +6,6 @@ use Rattle.sheet_fields.proofs.Laws.{no-names}
 use Rattle.sheet_fields.proofs.types.names_fit.Statement.{statement}
 use Rattle.sheet_fields.proofs.types.names_fit.Tie as tie
 
-add-names-fit : tie.Need-add-names-fit
-add-names-fit c = search needs
-
-add-u8-at : tie.Need-add-u8-at
-add-u8-at c = search needs
-
-u8-at-requires : tie.Need-u8-at-requires
-u8-at-requires c κs = search needs
-
-names-fit-requires : tie.Need-names-fit-requires
-names-fit-requires c κs = search needs
-
 returns : tie.Need-returns
 unfolding typeFields
 returns c = simp (c .before .before .if1 .taken) cc
@@ -27,5 +15,4 @@ returns-2 c = let a = c .before .before .args in simp (no-names (a .t) (now (a .
 
 pub names-fit-spec : {M : Type 1} → statement M
 names-fit-spec =
-    tie.close
-    (tie.spec add-names-fit add-u8-at u8-at-requires names-fit-requires returns returns-2)
+    tie.close (tie.spec (λ c. search needs) (λ c. search needs) (λ c κs. search needs) (λ c κs. search needs) returns returns-2)

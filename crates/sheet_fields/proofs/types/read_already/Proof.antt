@@ -5,27 +5,6 @@ use Rattle.definition.specs.Sheet.{typeFields}
 use Rattle.sheet_fields.proofs.types.read_already.Statement.{statement}
 use Rattle.sheet_fields.proofs.types.read_already.Tie as tie
 
-one-below-requires : tie.Need-one-below-requires
-one-below-requires c κs = search needs
-
-one-below-requires-2 : tie.Need-one-below-requires-2
-one-below-requires-2 c κs = search needs
-
-add-read-already : tie.Need-add-read-already
-add-read-already c = search needs
-
-add-u8-at : tie.Need-add-u8-at
-add-u8-at c = search needs
-
-u8-at-requires : tie.Need-u8-at-requires
-u8-at-requires c κs = search needs
-
-read-already-requires : tie.Need-read-already-requires
-read-already-requires c κs = search needs
-
-one-below-requires-3 : tie.Need-one-below-requires-3
-one-below-requires-3 c κs = search needs
-
 returns : tie.Need-returns
 unfolding typeFields
 returns c = simp (c .match .keys1) cc
@@ -81,24 +60,6 @@ returns-13 c = simp (ne-eqb _ _ (c .before .match .rest .0 .0 .0 .0 .0 .0 .0 .0 
 pub read-already-spec : {M : Type 1} → statement M
 read-already-spec =
     tie.close
-    (tie.spec
-    one-below-requires
-    one-below-requires-2
-    add-read-already
-    add-u8-at
-    u8-at-requires
-    read-already-requires
-    one-below-requires-3
-    returns
-    returns-2
-    returns-3
-    returns-4
-    returns-5
-    returns-6
-    returns-7
-    returns-8
-    returns-9
-    returns-10
-    returns-11
-    returns-12
-    returns-13)
+    (tie.spec (λ c κs. search needs) (λ c κs. search needs) (λ c. search needs) (λ c. search needs) (λ c κs. search needs)
+    (λ c κs. search needs) (λ c κs. search needs) returns returns-2 returns-3 returns-4 returns-5 returns-6 returns-7 returns-8
+    returns-9 returns-10 returns-11 returns-12 returns-13)

@@ -6,66 +6,6 @@ use Rattle.definition.proofs.Passing.{members-count}
 use Rattle.sheet_fields.proofs.types.values_fit.Statement.{statement}
 use Rattle.sheet_fields.proofs.types.values_fit.Tie as tie
 
-u8-at-requires : tie.Need-u8-at-requires
-u8-at-requires c κs = search needs
-
-add-u8-at : tie.Need-add-u8-at
-add-u8-at c = search needs
-
-u8-at-requires-2 : tie.Need-u8-at-requires-2
-u8-at-requires-2 c κs = search needs
-
-scalar-fits-requires : tie.Need-scalar-fits-requires
-scalar-fits-requires c κs = search needs
-
-vector-fits-requires : tie.Need-vector-fits-requires
-vector-fits-requires c κs = search needs
-
-matrix-fits-requires : tie.Need-matrix-fits-requires
-matrix-fits-requires c κs = search needs
-
-u8-at-requires-3 : tie.Need-u8-at-requires-3
-u8-at-requires-3 c κs = search needs
-
-add-u8-at-2 : tie.Need-add-u8-at-2
-add-u8-at-2 c = search needs
-
-u8-at-requires-4 : tie.Need-u8-at-requires-4
-u8-at-requires-4 c κs = search needs
-
-scalar-fits-requires-2 : tie.Need-scalar-fits-requires-2
-scalar-fits-requires-2 c κs = search needs
-
-add-u8-at-3 : tie.Need-add-u8-at-3
-add-u8-at-3 c = search needs
-
-u8-at-requires-5 : tie.Need-u8-at-requires-5
-u8-at-requires-5 c κs = search needs
-
-add-u8-at-4 : tie.Need-add-u8-at-4
-add-u8-at-4 c = search needs
-
-u8-at-requires-6 : tie.Need-u8-at-requires-6
-u8-at-requires-6 c κs = search needs
-
-space-fits-requires : tie.Need-space-fits-requires
-space-fits-requires c κs = search needs
-
-value-pointer-fits-requires : tie.Need-value-pointer-fits-requires
-value-pointer-fits-requires c κs = search needs
-
-add-u8-at-5 : tie.Need-add-u8-at-5
-add-u8-at-5 c = search needs
-
-u8-at-requires-7 : tie.Need-u8-at-requires-7
-u8-at-requires-7 c κs = search needs
-
-image-fits-requires : tie.Need-image-fits-requires
-image-fits-requires c κs = search needs
-
-u8-at-requires-8 : tie.Need-u8-at-requires-8
-u8-at-requires-8 c κs = search needs
-
 returns : tie.Need-returns
 unfolding typeFields
 returns c = simp (c .before .before .before .match .keys1, members-count) cc
@@ -121,37 +61,8 @@ returns-13 c = simp (ne-eqb _ _ (c .match .rest .0 .0 .0 .0 .0 .0 .0 .0 .0 .0 .0
 pub values-fit-spec : {M : Type 1} → statement M
 values-fit-spec =
     tie.close
-    (tie.spec
-    u8-at-requires
-    add-u8-at
-    u8-at-requires-2
-    scalar-fits-requires
-    vector-fits-requires
-    matrix-fits-requires
-    u8-at-requires-3
-    add-u8-at-2
-    u8-at-requires-4
-    scalar-fits-requires-2
-    add-u8-at-3
-    u8-at-requires-5
-    add-u8-at-4
-    u8-at-requires-6
-    space-fits-requires
-    value-pointer-fits-requires
-    add-u8-at-5
-    u8-at-requires-7
-    image-fits-requires
-    u8-at-requires-8
-    returns
-    returns-2
-    returns-3
-    returns-4
-    returns-5
-    returns-6
-    returns-7
-    returns-8
-    returns-9
-    returns-10
-    returns-11
-    returns-12
-    returns-13)
+    (tie.spec (λ c κs. search needs) (λ c. search needs) (λ c κs. search needs) (λ c κs. search needs) (λ c κs. search needs)
+    (λ c κs. search needs) (λ c κs. search needs) (λ c. search needs) (λ c κs. search needs) (λ c κs. search needs)
+    (λ c. search needs) (λ c κs. search needs) (λ c. search needs) (λ c κs. search needs) (λ c κs. search needs)
+    (λ c κs. search needs) (λ c. search needs) (λ c κs. search needs) (λ c κs. search needs) (λ c κs. search needs) returns
+    returns-2 returns-3 returns-4 returns-5 returns-6 returns-7 returns-8 returns-9 returns-10 returns-11 returns-12 returns-13)

@@ -6,15 +6,6 @@ use Rattle.definition.specs.Tests.{scalarFits}
 use Rattle.sheet_fields.proofs.values.scalar_fits.Statement.{statement}
 use Rattle.sheet_fields.proofs.values.scalar_fits.Tie as tie
 
-int-width-requires : tie.Need-int-width-requires
-int-width-requires c κs = search needs
-
-int-width-requires-2 : tie.Need-int-width-requires-2
-int-width-requires-2 c κs = search needs
-
-float-width-requires : tie.Need-float-width-requires
-float-width-requires c κs = search needs
-
 returns : tie.Need-returns
 unfolding scalarFits
 returns c = simp (c .before .match .keys1) cc
@@ -38,12 +29,4 @@ returns-5 c = let k = c .before .args .kind in simp (lt-leb k 1 (omega (arith, c
 pub scalar-fits-spec : {M : Type 1} → statement M
 scalar-fits-spec =
     tie.close
-    (tie.spec
-    int-width-requires
-    int-width-requires-2
-    float-width-requires
-    returns
-    returns-2
-    returns-3
-    returns-4
-    returns-5)
+    (tie.spec (λ c κs. search needs) (λ c κs. search needs) (λ c κs. search needs) returns returns-2 returns-3 returns-4 returns-5)

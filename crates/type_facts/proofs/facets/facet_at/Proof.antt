@@ -9,18 +9,6 @@ use Rattle.type_facts.proofs.facets.facet_at.Tie as tie
 returns : tie.Need-returns
 returns c = let a = c .before .before .before .args in sym (ap facetOf (inner-past (a .s .now) (a .types .now) (a .n) (a .i) (c .before .before .before .pre) (c .if1 .taken)))
 
-entry-at-requires : tie.Need-entry-at-requires
-entry-at-requires c κs = search needs
-
-tag-of-requires : tie.Need-tag-of-requires
-tag-of-requires c κs = search needs
-
-body-of-requires : tie.Need-body-of-requires
-body-of-requires c κs = search needs
-
-facet-of-requires : tie.Need-facet-of-requires
-facet-of-requires c κs = search needs
-
 returns-2 : tie.Need-returns-2
 returns-2 c = let a = c .before .before .before .before .before .before .before .args in
     let b = c .before .body-of .result .now in
@@ -30,10 +18,4 @@ returns-2 c = let a = c .before .before .before .before .before .before .before 
 pub facet-at-spec : {M : Type 1} → statement M
 facet-at-spec =
     tie.close
-    (tie.spec
-    returns
-    entry-at-requires
-    tag-of-requires
-    body-of-requires
-    facet-of-requires
-    returns-2)
+    (tie.spec returns (λ c κs. search needs) (λ c κs. search needs) (λ c κs. search needs) (λ c κs. search needs) returns-2)

@@ -7,57 +7,6 @@ use Rattle.definition.specs.Sheet.{typeFields}
 use Rattle.type_facts.proofs.facets.facet_of.Statement.{statement}
 use Rattle.type_facts.proofs.facets.facet_of.Tie as tie
 
-name-end-requires : tie.Need-name-end-requires
-name-end-requires c κs = search needs
-
-add-u8-at : tie.Need-add-u8-at
-add-u8-at c = search needs
-
-u8-at-requires : tie.Need-u8-at-requires
-u8-at-requires c κs = search needs
-
-cast-matrix-stride : tie.Need-cast-matrix-stride
-cast-matrix-stride c = search needs
-
-add-u8-at-2 : tie.Need-add-u8-at-2
-add-u8-at-2 c = search needs
-
-u8-at-requires-2 : tie.Need-u8-at-requires-2
-u8-at-requires-2 c κs = search needs
-
-cast-matrix-stride-2 : tie.Need-cast-matrix-stride-2
-cast-matrix-stride-2 c = search needs
-
-matrix-stride-requires : tie.Need-matrix-stride-requires
-matrix-stride-requires c κs = search needs
-
-u16-at-requires : tie.Need-u16-at-requires
-u16-at-requires c κs = search needs
-
-add-u32-at : tie.Need-add-u32-at
-add-u32-at c = search needs
-
-u32-at-requires : tie.Need-u32-at-requires
-u32-at-requires c κs = search needs
-
-add-u8-at-3 : tie.Need-add-u8-at-3
-add-u8-at-3 c = search needs
-
-u8-at-requires-3 : tie.Need-u8-at-requires-3
-u8-at-requires-3 c κs = search needs
-
-add-u8-at-4 : tie.Need-add-u8-at-4
-add-u8-at-4 c = search needs
-
-u8-at-requires-4 : tie.Need-u8-at-requires-4
-u8-at-requires-4 c κs = search needs
-
-image-facet-requires : tie.Need-image-facet-requires
-image-facet-requires c κs = search needs
-
-u16-at-requires-2 : tie.Need-u16-at-requires-2
-u16-at-requires-2 c κs = search needs
-
 returns : tie.Need-returns
 unfolding typeFields
 returns c = simp (c .match .keys1)
@@ -113,34 +62,8 @@ returns-13 c = let r = c .before .match .rest in simp (ne-eqb _ _ (r .0 .0 .0 .0
 pub facet-of-spec : {M : Type 1} → statement M
 facet-of-spec =
     tie.close
-    (tie.spec
-    name-end-requires
-    add-u8-at
-    u8-at-requires
-    cast-matrix-stride
-    add-u8-at-2
-    u8-at-requires-2
-    cast-matrix-stride-2
-    matrix-stride-requires
-    u16-at-requires
-    add-u32-at
-    u32-at-requires
-    add-u8-at-3
-    u8-at-requires-3
-    add-u8-at-4
-    u8-at-requires-4
-    image-facet-requires
-    u16-at-requires-2
-    returns
-    returns-2
-    returns-3
-    returns-4
-    returns-5
-    returns-6
-    returns-7
-    returns-8
-    returns-9
-    returns-10
-    returns-11
-    returns-12
-    returns-13)
+    (tie.spec (λ c κs. search needs) (λ c. search needs) (λ c κs. search needs) (λ c. search needs) (λ c. search needs)
+    (λ c κs. search needs) (λ c. search needs) (λ c κs. search needs) (λ c κs. search needs) (λ c. search needs)
+    (λ c κs. search needs) (λ c. search needs) (λ c κs. search needs) (λ c. search needs) (λ c κs. search needs)
+    (λ c κs. search needs) (λ c κs. search needs) returns returns-2 returns-3 returns-4 returns-5 returns-6 returns-7 returns-8
+    returns-9 returns-10 returns-11 returns-12 returns-13)

@@ -6,9 +6,6 @@ use Rattle.type_facts.proofs.Others.{no-stride}
 use Rattle.type_facts.proofs.facets.stride_in.Statement.{statement}
 use Rattle.type_facts.proofs.facets.stride_in.Tie as tie
 
-enum-known-f : tie.Need-enum-known-f
-enum-known-f c = search needs
-
 returns : tie.Need-returns
 returns c = no-stride (c .before .args .f) (c .match .keys2)
 
@@ -16,4 +13,4 @@ returns-2 : tie.Need-returns-2
 returns-2 c = sym (ap strideIn (c .before .f .given .1))
 
 pub stride-in-spec : {M : Type 1} → statement M
-stride-in-spec = tie.close (tie.spec enum-known-f returns returns-2)
+stride-in-spec = tie.close (tie.spec (λ c. search needs) returns returns-2)

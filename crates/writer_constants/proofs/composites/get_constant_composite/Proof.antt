@@ -7,20 +7,8 @@ use Rattle.writer_constants.proofs.Ways.{composite-old, composite-new}
 use Rattle.writer_constants.proofs.composites.get_constant_composite.Statement.{statement}
 use Rattle.writer_constants.proofs.composites.get_constant_composite.Tie as tie
 
-key-requires : tie.Need-key-requires
-key-requires c κs = search needs
-
 find-composite-requires : tie.Need-find-composite-requires
 find-composite-requires c κs = omega (arith, c .before .before .before .before .pre .1 .rows)
-
-enum-known-id : tie.Need-enum-known-id
-enum-known-id c = search needs
-
-enum-told : tie.Need-enum-told
-enum-told c = search needs
-
-take-id-requires : tie.Need-take-id-requires
-take-id-requires c κs = search needs
 
 get-type-id-requires : tie.Need-get-type-id-requires
 get-type-id-requires c κs =
@@ -42,21 +30,12 @@ enter-composite-requires c κs =
     let f = c .before .before .before .before .before .before .before .before .before .before .get-type-id in
     omega (arith, m, f .ensures .grown, f .kept .0, c .before .before .before .declare-composite .ensures .grown, p .rows)
 
-same-length : tie.Need-same-length
-same-length c = search needs
-
 returns : tie.Need-returns
 returns c =
     let a = c .before .before .before .before .before .before .before .before .args in
     let k = c .before .before .before .before .before .key in
     let x = c .before .before .before .find-composite in
     composite-old (keyOf (a .t)) (k .ensures .1) (k .result) (k .ensures .0) (a .n) (a .w) (a .tables .now) (a .sections .now) (x .result) (x .ensures) (c .before .id .given .0 .0) (c .before .id .given .1)
-
-same-length-2 : tie.Need-same-length-2
-same-length-2 c = search needs
-
-same-length-3 : tie.Need-same-length-3
-same-length-3 c = search needs
 
 returns-2 : tie.Need-returns-2
 returns-2 c =
@@ -73,17 +52,6 @@ returns-2 c =
 pub get-constant-composite-spec : {M : Type 1} → statement M
 get-constant-composite-spec =
     tie.close
-    (tie.spec
-    key-requires
-    find-composite-requires
-    enum-known-id
-    enum-told
-    take-id-requires
-    get-type-id-requires
-    declare-composite-requires
-    enter-composite-requires
-    same-length
-    returns
-    same-length-2
-    same-length-3
-    returns-2)
+    (tie.spec (λ c κs. search needs) find-composite-requires (λ c. search needs) (λ c. search needs) (λ c κs. search needs)
+    get-type-id-requires declare-composite-requires enter-composite-requires (λ c. search needs) returns (λ c. search needs)
+    (λ c. search needs) returns-2)

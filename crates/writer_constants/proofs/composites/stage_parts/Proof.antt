@@ -24,30 +24,6 @@ abbrev μ-loop : tie.MeasureT-loop
 loop-holds : tie.Need-loop-holds Inv-loop μ-loop
 loop-holds c = let a = c .before .before .args in (omega arith, refl, parts-none (a .w) (a .tables .now) (a .b .now))
 
-mul-u16-at : tie.Need-mul-u16-at Inv-loop μ-loop
-mul-u16-at c = search needs
-
-add-u16-at : tie.Need-add-u16-at Inv-loop μ-loop
-add-u16-at c = search needs
-
-u16-at-requires : tie.Need-u16-at-requires Inv-loop μ-loop
-u16-at-requires c κs = search needs
-
-cast-value-at : tie.Need-cast-value-at Inv-loop μ-loop
-cast-value-at c = search needs
-
-value-at-requires : tie.Need-value-at-requires Inv-loop μ-loop
-value-at-requires c κs = search needs
-
-stage-part-requires : tie.Need-stage-part-requires Inv-loop μ-loop
-stage-part-requires c κs = search needs
-
-add-i : tie.Need-add-i Inv-loop μ-loop
-add-i c = search needs
-
-loop-less : tie.Need-loop-less Inv-loop μ-loop
-loop-less c = search needs
-
 loop-again : tie.Need-loop-again Inv-loop μ-loop
 loop-again c =
     let a = c .before .before .before .before .before .before .before .before .before .before .before .args in
@@ -75,18 +51,5 @@ returns c =
 pub stage-parts-spec : {M : Type 1} → statement M
 stage-parts-spec =
     tie.close
-    (tie.spec
-    Inv-loop
-    μ-loop
-    loop-holds
-    mul-u16-at
-    add-u16-at
-    u16-at-requires
-    cast-value-at
-    value-at-requires
-    stage-part-requires
-    add-i
-    loop-less
-    loop-again
-    same-length
-    returns)
+    (tie.spec Inv-loop μ-loop loop-holds (λ c. search needs) (λ c. search needs) (λ c κs. search needs) (λ c. search needs)
+    (λ c κs. search needs) (λ c κs. search needs) (λ c. search needs) (λ c. search needs) loop-again same-length returns)

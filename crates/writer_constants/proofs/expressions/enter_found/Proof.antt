@@ -5,15 +5,6 @@ use Rattle.writer_constants.proofs.Entering.{found-entered}
 use Rattle.writer_constants.proofs.expressions.enter_found.Statement.{statement}
 use Rattle.writer_constants.proofs.expressions.enter_found.Tie as tie
 
-type-id-requires : tie.Need-type-id-requires
-type-id-requires c κs = search needs
-
-enter-value-requires : tie.Need-enter-value-requires
-enter-value-requires c κs = search needs
-
-same-length : tie.Need-same-length
-same-length c = search needs
-
 returns : tie.Need-returns
 returns c =
     let a = c .before .before .before .before .before .before .before .before .args in
@@ -21,4 +12,4 @@ returns c =
     let x = c .before .before .enter-value in found-entered (keyOf (a .t)) (a .kind) (t .result) (a .g) (a .tables .now) (x .result) (x .last .0) (t .ensures) (x .ensures)
 
 pub enter-found-spec : {M : Type 1} → statement M
-enter-found-spec = tie.close (tie.spec type-id-requires enter-value-requires same-length returns)
+enter-found-spec = tie.close (tie.spec (λ c κs. search needs) (λ c κs. search needs) (λ c. search needs) returns)

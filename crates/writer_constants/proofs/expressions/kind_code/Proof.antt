@@ -7,24 +7,6 @@ use Rattle.definition.specs.Shapes.{kindOf}
 use Rattle.writer_constants.proofs.expressions.kind_code.Statement.{statement}
 use Rattle.writer_constants.proofs.expressions.kind_code.Tie as tie
 
-mul-result : tie.Need-mul-result
-mul-result c = search needs
-
-add-result : tie.Need-add-result
-add-result c = search needs
-
-mul-result-2 : tie.Need-mul-result-2
-mul-result-2 c = search needs
-
-add-result-2 : tie.Need-add-result-2
-add-result-2 c = search needs
-
-mul-result-3 : tie.Need-mul-result-3
-mul-result-3 c = search needs
-
-add-result-3 : tie.Need-add-result-3
-add-result-3 c = search needs
-
 returns : tie.Need-returns
 unfolding kindOf
 returns c = rw (c .match .keys1) (omega arith, omega arith)
@@ -44,14 +26,5 @@ returns-4 c = let r = c .match .rest in rw (ne-eqb _ _ (r .0 .0 .1), ne-eqb _ _ 
 pub kind-code-spec : {M : Type 1} → statement M
 kind-code-spec =
     tie.close
-    (tie.spec
-    mul-result
-    add-result
-    mul-result-2
-    add-result-2
-    mul-result-3
-    add-result-3
-    returns
-    returns-2
-    returns-3
-    returns-4)
+    (tie.spec (λ c. search needs) (λ c. search needs) (λ c. search needs) (λ c. search needs) (λ c. search needs)
+    (λ c. search needs) returns returns-2 returns-3 returns-4)

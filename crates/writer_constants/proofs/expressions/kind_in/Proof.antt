@@ -16,21 +16,6 @@ use Rattle.writer_constants.proofs.expressions.kind_in.Tie as tie
 returns : tie.Need-returns
 returns c = let a = c .before .before .args in (sym (ap kindCode (no-kind (a .tag) (a .d .now) (nameEnd (a .d .now) 0) (c .if1 .taken))), omega arith)
 
-name-end-requires : tie.Need-name-end-requires
-name-end-requires c κs = search needs
-
-u8-at-requires : tie.Need-u8-at-requires
-u8-at-requires c κs = search needs
-
-add-u8-at : tie.Need-add-u8-at
-add-u8-at c = search needs
-
-u8-at-requires-2 : tie.Need-u8-at-requires-2
-u8-at-requires-2 c κs = search needs
-
-kind-code-requires : tie.Need-kind-code-requires
-kind-code-requires c κs = search needs
-
 returns-2 : tie.Need-returns-2
 returns-2 c =
     let a = c .before .before .before .before .before .before .args in
@@ -46,11 +31,5 @@ returns-2 c =
 pub kind-in-spec : {M : Type 1} → statement M
 kind-in-spec =
     tie.close
-    (tie.spec
-    returns
-    name-end-requires
-    u8-at-requires
-    add-u8-at
-    u8-at-requires-2
-    kind-code-requires
-    returns-2)
+    (tie.spec returns (λ c κs. search needs) (λ c κs. search needs) (λ c. search needs) (λ c κs. search needs)
+    (λ c κs. search needs) returns-2)

@@ -9,24 +9,6 @@ use Rattle.finding.proofs.Literals.{is-f64, is-f32, is-u32, is-i32, is-bool}
 use Rattle.writer_constants.proofs.expressions.literal_code.Statement.{statement}
 use Rattle.writer_constants.proofs.expressions.literal_code.Tie as tie
 
-form-requires : tie.Need-form-requires
-form-requires c κs = search needs
-
-kind-code-requires : tie.Need-kind-code-requires
-kind-code-requires c κs = search needs
-
-kind-code-requires-2 : tie.Need-kind-code-requires-2
-kind-code-requires-2 c κs = search needs
-
-kind-code-requires-3 : tie.Need-kind-code-requires-3
-kind-code-requires-3 c κs = search needs
-
-kind-code-requires-4 : tie.Need-kind-code-requires-4
-kind-code-requires-4 c κs = search needs
-
-kind-code-requires-5 : tie.Need-kind-code-requires-5
-kind-code-requires-5 c κs = search needs
-
 returns : tie.Need-returns
 returns c = c .kind-code .ensures .0 ∙ ap (λ (k : Kind). kindCode (some k)) (is-f64 (literalOf (c .before .before .before .args .l)) (sym (c .before .before .form .ensures) ∙ c .before .match .keys1))
 
@@ -46,15 +28,5 @@ returns-5 c = let r = c .before .match .rest in let e = c .before .before .form 
 pub literal-code-spec : {M : Type 1} → statement M
 literal-code-spec =
     tie.close
-    (tie.spec
-    form-requires
-    kind-code-requires
-    kind-code-requires-2
-    kind-code-requires-3
-    kind-code-requires-4
-    kind-code-requires-5
-    returns
-    returns-2
-    returns-3
-    returns-4
-    returns-5)
+    (tie.spec (λ c κs. search needs) (λ c κs. search needs) (λ c κs. search needs) (λ c κs. search needs) (λ c κs. search needs)
+    (λ c κs. search needs) returns returns-2 returns-3 returns-4 returns-5)

@@ -13,18 +13,6 @@ use Rattle.writer_constants.proofs.expressions.scalar_kind.Tie as tie
 returns : tie.Need-returns
 returns c = let a = c .before .before .before .args in (sym (ap (λ (x : TypeInner). kindCode (kindOfScalar x)) (inner-past (a .s .now) (a .types .now) (a .n) (a .t) (c .before .before .before .pre) (c .if1 .taken))), omega arith)
 
-entry-at-requires : tie.Need-entry-at-requires
-entry-at-requires c κs = search needs
-
-tag-of-requires : tie.Need-tag-of-requires
-tag-of-requires c κs = search needs
-
-body-of-requires : tie.Need-body-of-requires
-body-of-requires c κs = search needs
-
-kind-in-requires : tie.Need-kind-in-requires
-kind-in-requires c κs = search needs
-
 returns-2 : tie.Need-returns-2
 returns-2 c =
     let a = c .before .before .before .before .before .before .before .args in
@@ -37,10 +25,4 @@ returns-2 c =
 pub scalar-kind-spec : {M : Type 1} → statement M
 scalar-kind-spec =
     tie.close
-    (tie.spec
-    returns
-    entry-at-requires
-    tag-of-requires
-    body-of-requires
-    kind-in-requires
-    returns-2)
+    (tie.spec returns (λ c κs. search needs) (λ c κs. search needs) (λ c κs. search needs) (λ c κs. search needs) returns-2)

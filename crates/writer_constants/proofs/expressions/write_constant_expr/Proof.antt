@@ -23,9 +23,6 @@ use Rattle.writer_constants.proofs.expressions.write_constant_expr.Tie 
 abbrev Roomy : List ℕ → Writer → List ℕ → List ℕ → Expression → Type 0
 Roomy b w T S e = Room (expressionCost (expressionOf b e)) w T S
 
-enum-known-e : tie.Need-enum-known-e
-enum-known-e c = search needs
-
 get-constant-scalar-requires : tie.Need-get-constant-scalar-requires
 get-constant-scalar-requires c κs =
     let o = c .before .before .before .before .before .before .before .before .before .before in
@@ -33,12 +30,6 @@ get-constant-scalar-requires c κs =
     let e = c .before .before .before .e .given in
     let r = subst (Roomy (a .b .now) (a .w) (a .tables .now) (a .sections .now)) (e .1) (o .pre .1 .1) in
     record { rows = omega (arith, r .rows); words = omega (arith, r .words) }
-
-literal-type-requires : tie.Need-literal-type-requires
-literal-type-requires c κs = search needs
-
-literal-code-requires : tie.Need-literal-code-requires
-literal-code-requires c κs = search needs
 
 enter-found-requires : tie.Need-enter-found-requires
 enter-found-requires c κs =
@@ -48,12 +39,6 @@ enter-found-requires c κs =
     let g = c .before .before .before .before .before .before .before .get-constant-scalar in
     let r = subst (Roomy (a .b .now) (a .w) (a .tables .now) (a .sections .now)) (e .1) (o .pre .1 .1) in
     omega (arith, r .rows, g .ensures .grown, g .kept .0)
-
-enum-known-e-2 : tie.Need-enum-known-e-2
-enum-known-e-2 c = search needs
-
-cast-value-at : tie.Need-cast-value-at
-cast-value-at c = search needs
 
 value-at-requires : tie.Need-value-at-requires
 value-at-requires c κs = omega (arith, c .before .before .before .before .before .before .before .before .before .pre .1 .1 .rows)
@@ -65,9 +50,6 @@ enter-value-requires c κs =
     let e = c .before .before .before .before .e2 .given in
     let r = subst (Roomy (a .b .now) (a .w) (a .tables .now) (a .sections .now)) (e .1) (o .pre .1 .1) in
     omega (arith, r .rows)
-
-enum-known-e-3 : tie.Need-enum-known-e-3
-enum-known-e-3 c = search needs
 
 get-type-id-requires : tie.Need-get-type-id-requires
 get-type-id-requires c κs =
@@ -99,12 +81,6 @@ enter-found-requires-2 c κs =
     let r = subst (Roomy (a .b .now) (a .w) (a .tables .now) (a .sections .now)) (e .1) (o .pre .1 .1) in
     omega (arith, r .rows, f .ensures .grown, f .kept .0, g .ensures .grown, g .kept .0)
 
-enum-known-e-4 : tie.Need-enum-known-e-4
-enum-known-e-4 c = search needs
-
-cast-stage-parts : tie.Need-cast-stage-parts
-cast-stage-parts c = search needs
-
 stage-parts-requires : tie.Need-stage-parts-requires
 stage-parts-requires c κs =
     let o = c .before .before .before .before .before .before .before .before .before in
@@ -113,9 +89,6 @@ stage-parts-requires c κs =
     let r = subst (Roomy (a .b .now) (a .w) (a .tables .now) (a .sections .now)) (e .1) (o .pre .1 .1) in
     let l = u16s-length (a .b .now) 4 (e .0 .1 .0) in let m = subst (λ (x : Expression). FewParts (expressionOf (a .b .now) x)) (e .1) (o .pre .1 .0) in
     (omega (arith, l, m), omega (arith, l, r .rows))
-
-cast-get-constant-composite : tie.Need-cast-get-constant-composite
-cast-get-constant-composite c = search needs
 
 get-constant-composite-requires : tie.Need-get-constant-composite-requires
 get-constant-composite-requires c κs =
@@ -137,20 +110,8 @@ enter-found-requires-3 c κs =
     let l = u16s-length (a .b .now) 4 (e .0 .1 .0) in
     omega (arith, l, r .rows, p .kept .0, g .ensures .grown, g .kept .0)
 
-enum-known-e-5 : tie.Need-enum-known-e-5
-enum-known-e-5 c = search needs
-
-cast-value-at-2 : tie.Need-cast-value-at-2
-cast-value-at-2 c = search needs
-
 value-at-requires-2 : tie.Need-value-at-requires-2
 value-at-requires-2 c κs = omega (arith, c .before .before .before .before .before .before .before .before .before .pre .1 .1 .rows)
-
-splat-type-requires : tie.Need-splat-type-requires
-splat-type-requires c κs = search needs
-
-cast-stage-splat : tie.Need-cast-stage-splat
-cast-stage-splat c = search needs
 
 stage-splat-requires : tie.Need-stage-splat-requires
 stage-splat-requires c κs =
@@ -159,9 +120,6 @@ stage-splat-requires c κs =
     let e = c .before .before .before .before .before .e5 .given in
     let r = subst (Roomy (a .b .now) (a .w) (a .tables .now) (a .sections .now)) (e .1) (o .pre .1 .1) in
     omega (arith, r .rows)
-
-cast-get-constant-composite-2 : tie.Need-cast-get-constant-composite-2
-cast-get-constant-composite-2 c = search needs
 
 get-constant-composite-requires-2 : tie.Need-get-constant-composite-requires-2
 get-constant-composite-requires-2 c κs = (
@@ -190,12 +148,6 @@ enter-found-requires-4 c κs =
     let x = splat-room (e .0 .0) (v .result .kind) (keyOf (t .result)) (t .ensures) (e .0 .1 .0) (a .w) (a .tables .now) (a .sections .now) r in
     omega (arith, x .rows, p .kept .0, g .ensures .grown, g .kept .0)
 
-same-length : tie.Need-same-length
-same-length c = search needs
-
-same-length-2 : tie.Need-same-length-2
-same-length-2 c = search needs
-
 returns : tie.Need-returns
 returns c =
     let a = c .before .before .before .before .before .before .before .before .before .before .before .before .before .before .before .before .before .before .before .before .before .args in
@@ -207,9 +159,6 @@ returns c =
     let x = c .before .before .enter-found in
     rw (e .1) (value-entered ts (a .w) (a .tables .now) (a .sections .now) (literalOf (e .0 .0)) (g .result) (g .last .0) (g .last .1 .0) (g .ensures) (keyOf (t .result)) (t .ensures) (k .result) (k .ensures) (x .result) (x .last .0) (x .ensures))
 
-same-length-3 : tie.Need-same-length-3
-same-length-3 c = search needs
-
 returns-2 : tie.Need-returns-2
 returns-2 c =
     let a = c .before .before .before .before .before .before .before .before .before .before .before .before .before .before .args in
@@ -218,12 +167,6 @@ returns-2 c =
     let v = c .before .before .before .before .value-at in
     let x = c .before .before .enter-value in
     rw (e .1) (alias-entered ts (a .w) (a .tables .now) (a .sections .now) (e .0 .0) (v .result) (v .ensures) (x .result) (x .last .0) (x .ensures))
-
-same-length-4 : tie.Need-same-length-4
-same-length-4 c = search needs
-
-same-length-5 : tie.Need-same-length-5
-same-length-5 c = search needs
 
 returns-3 : tie.Need-returns-3
 returns-3 c =
@@ -236,12 +179,6 @@ returns-3 c =
     let x = c .before .before .enter-found2 in
     rw (e .1) (zero-entered ts (a .w) (a .tables .now) (a .sections .now) (e .0 .0) (f .result) (f .last .0) (f .last .1 .0) (f .ensures) (g .result) (g .last .0) (g .last .1 .0) (g .ensures) (k .result) (k .ensures .0) (k .ensures .1) (x .result) (x .last .0) (x .ensures))
 
-same-length-6 : tie.Need-same-length-6
-same-length-6 c = search needs
-
-same-length-7 : tie.Need-same-length-7
-same-length-7 c = search needs
-
 returns-4 : tie.Need-returns-4
 returns-4 c =
     let a = c .before .before .before .before .before .before .before .before .before .before .before .before .before .before .before .before .before .before .before .before .before .before .before .args in
@@ -251,12 +188,6 @@ returns-4 c =
     let g = c .before .before .before .before .before .before .before .before .get-constant-composite in
     let x = c .before .before .enter-found3 in
     rw (e .1) (compose-entered ts (a .w) (a .tables .now) (a .sections .now) (e .0 .0) (e .0 .1 .0) (u16sAt (a .b .now) 4 (e .0 .1 .0)) (u16s-length (a .b .now) 4 (e .0 .1 .0)) (p .last .0) (p .ensures) (g .result) (g .last .0) (g .last .1 .0) (g .ensures) (x .result) (x .last .0) (x .ensures))
-
-same-length-8 : tie.Need-same-length-8
-same-length-8 c = search needs
-
-same-length-9 : tie.Need-same-length-9
-same-length-9 c = search needs
 
 returns-5 : tie.Need-returns-5
 returns-5 c =
@@ -273,47 +204,11 @@ returns-5 c =
 pub write-constant-expr-spec : {M : Type 1} → statement M
 write-constant-expr-spec =
     tie.close
-    (tie.spec
-    enum-known-e
-    get-constant-scalar-requires
-    literal-type-requires
-    literal-code-requires
-    enter-found-requires
-    enum-known-e-2
-    cast-value-at
-    value-at-requires
-    enter-value-requires
-    enum-known-e-3
-    get-type-id-requires
-    write-constant-null-requires
-    scalar-kind-requires
-    enter-found-requires-2
-    enum-known-e-4
-    cast-stage-parts
-    stage-parts-requires
-    cast-get-constant-composite
-    get-constant-composite-requires
-    enter-found-requires-3
-    enum-known-e-5
-    cast-value-at-2
-    value-at-requires-2
-    splat-type-requires
-    cast-stage-splat
-    stage-splat-requires
-    cast-get-constant-composite-2
-    get-constant-composite-requires-2
-    enter-found-requires-4
-    same-length
-    same-length-2
-    returns
-    same-length-3
-    returns-2
-    same-length-4
-    same-length-5
-    returns-3
-    same-length-6
-    same-length-7
-    returns-4
-    same-length-8
-    same-length-9
-    returns-5)
+    (tie.spec (λ c. search needs) get-constant-scalar-requires (λ c κs. search needs) (λ c κs. search needs) enter-found-requires
+    (λ c. search needs) (λ c. search needs) value-at-requires enter-value-requires (λ c. search needs) get-type-id-requires
+    write-constant-null-requires scalar-kind-requires enter-found-requires-2 (λ c. search needs) (λ c. search needs)
+    stage-parts-requires (λ c. search needs) get-constant-composite-requires enter-found-requires-3 (λ c. search needs)
+    (λ c. search needs) value-at-requires-2 (λ c κs. search needs) (λ c. search needs) stage-splat-requires (λ c. search needs)
+    get-constant-composite-requires-2 enter-found-requires-4 (λ c. search needs) (λ c. search needs) returns (λ c. search needs)
+    returns-2 (λ c. search needs) (λ c. search needs) returns-3 (λ c. search needs) (λ c. search needs) returns-4
+    (λ c. search needs) (λ c. search needs) returns-5)

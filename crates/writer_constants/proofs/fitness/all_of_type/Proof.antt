@@ -24,15 +24,6 @@ loop-holds c =
     let a = c .before .before .args in
     let z : a .n ≡ a .n - 0 = omega arith in (omega arith, omega arith, λ S s h. ap (λ (j : ℕ). allOf s (a .id) (u16sAt (a .b .now) 4 j)) z)
 
-u16-at-requires : tie.Need-u16-at-requires Inv-loop μ-loop
-u16-at-requires c κs = search needs
-
-cast-value-at : tie.Need-cast-value-at Inv-loop μ-loop
-cast-value-at c = search needs
-
-value-at-requires : tie.Need-value-at-requires Inv-loop μ-loop
-value-at-requires c κs = search needs
-
 returns : tie.Need-returns Inv-loop μ-loop
 returns c =
     let a = c .before .before .before .before .before .before .before .before .args in
@@ -41,15 +32,6 @@ returns c =
     let v = c .before .before .value-at in
     λ S s h. let t = type-read (u .result) (u16At (a .b .now) (l .p)) (a .w) (a .tables .now) (v .result) (v .ensures) (u .ensures) S s h in
     sym (l .inv .2 S s h ∙ other-type s (a .id) (a .b .now) (l .p) (a .n - l .i) (a .n - (l .i + 1)) (omega arith) (λ z. c .if1 .taken (t ∙ z)))
-
-add-i : tie.Need-add-i Inv-loop μ-loop
-add-i c = search needs
-
-add-p : tie.Need-add-p Inv-loop μ-loop
-add-p c = search needs
-
-loop-less : tie.Need-loop-less Inv-loop μ-loop
-loop-less c = search needs
 
 loop-again : tie.Need-loop-again Inv-loop μ-loop
 loop-again c =
@@ -71,16 +53,5 @@ returns-2 c =
 pub all-of-type-spec : {M : Type 1} → statement M
 all-of-type-spec =
     tie.close
-    (tie.spec
-    Inv-loop
-    μ-loop
-    loop-holds
-    u16-at-requires
-    cast-value-at
-    value-at-requires
-    returns
-    add-i
-    add-p
-    loop-less
-    loop-again
-    returns-2)
+    (tie.spec Inv-loop μ-loop loop-holds (λ c κs. search needs) (λ c. search needs) (λ c κs. search needs) returns
+    (λ c. search needs) (λ c. search needs) (λ c. search needs) loop-again returns-2)

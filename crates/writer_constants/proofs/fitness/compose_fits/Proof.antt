@@ -14,18 +14,6 @@ use Rattle.writer_constants.proofs.fitness.compose_fits.Tie as tie
 returns : tie.Need-returns
 returns c = let a = c .before .before .before .before .before .args in subst (λ (x : TypeInner). Fit (placesOf x) (u16sAt (a .b .now) 4 (a .count)) (a .w) (a .tables .now) false) (sym (inner-past (a .s .now) (a .types .now) (a .n) (a .t) (c .before .before .before .before .before .pre .0) (c .if1 .taken))) (λ S s h. refl)
 
-entry-at-requires : tie.Need-entry-at-requires
-entry-at-requires c κs = search needs
-
-tag-of-requires : tie.Need-tag-of-requires
-tag-of-requires c κs = search needs
-
-body-of-requires : tie.Need-body-of-requires
-body-of-requires c κs = search needs
-
-places-fit-requires : tie.Need-places-fit-requires
-places-fit-requires c κs = search needs
-
 returns-2 : tie.Need-returns-2
 returns-2 c =
     let a = c .before .before .before .before .before .before .before .before .before .args in
@@ -39,10 +27,4 @@ returns-2 c =
 pub compose-fits-spec : {M : Type 1} → statement M
 compose-fits-spec =
     tie.close
-    (tie.spec
-    returns
-    entry-at-requires
-    tag-of-requires
-    body-of-requires
-    places-fit-requires
-    returns-2)
+    (tie.spec returns (λ c κs. search needs) (λ c κs. search needs) (λ c κs. search needs) (λ c κs. search needs) returns-2)

@@ -8,12 +8,6 @@ use Rattle.writer_constants.proofs.fitness.each_fits.Tie as tie
 returns : tie.Need-returns
 returns c = let a = c .before .before .before .args in other-count (a .w) (a .tables .now) (a .b .now) (a .n) (a .size) (keyOf (a .t)) (c .if1 .taken)
 
-type-id-requires : tie.Need-type-id-requires
-type-id-requires c κs = search needs
-
-all-of-type-requires : tie.Need-all-of-type-requires
-all-of-type-requires c κs = search needs
-
 returns-2 : tie.Need-returns-2
 returns-2 c =
     let a = c .before .before .before .before .before .args in
@@ -21,4 +15,4 @@ returns-2 c =
     let r = c .all-of-type in this-count (a .w) (a .tables .now) (a .b .now) (a .n) (a .size) (keyOf (a .t)) (c .before .before .if1 .left) (t .result) (t .ensures) (r .result) (r .ensures)
 
 pub each-fits-spec : {M : Type 1} → statement M
-each-fits-spec = tie.close (tie.spec returns type-id-requires all-of-type-requires returns-2)
+each-fits-spec = tie.close (tie.spec returns (λ c κs. search needs) (λ c κs. search needs) returns-2)

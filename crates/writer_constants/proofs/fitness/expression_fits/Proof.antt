@@ -15,18 +15,6 @@ use Rattle.writer_constants.proofs.Fitting.{kind-there}
 use Rattle.writer_constants.proofs.fitness.expression_fits.Statement.{statement}
 use Rattle.writer_constants.proofs.fitness.expression_fits.Tie as tie
 
-enum-told : tie.Need-enum-told
-enum-told c = search needs
-
-enum-told-2 : tie.Need-enum-told-2
-enum-told-2 c = search needs
-
-enum-known-e : tie.Need-enum-known-e
-enum-known-e c = search needs
-
-cast-is-zeroable : tie.Need-cast-is-zeroable
-cast-is-zeroable c = search needs
-
 is-zeroable-requires : tie.Need-is-zeroable-requires
 is-zeroable-requires c κs =
     let a = c .before .before .before .before .before .before .before .before .before .args in
@@ -35,21 +23,6 @@ is-zeroable-requires c κs =
     let h = subst (λ (x : Expression). below (a .n) (expressionTypes (expressionOf (a .b .now) x)) ≡ true) (c .before .before .e .given .1) (p .1 .0) in
     (p .0, (ltb-true t (a .n) (both (ltb t (a .n)) true h .0), p .1 .1 .1))
 
-enum-known-e-2 : tie.Need-enum-known-e-2
-enum-known-e-2 c = search needs
-
-compose-fits-requires : tie.Need-compose-fits-requires
-compose-fits-requires c κs = search needs
-
-enum-known-e-3 : tie.Need-enum-known-e-3
-enum-known-e-3 c = search needs
-
-cast-value-at : tie.Need-cast-value-at
-cast-value-at c = search needs
-
-value-at-requires : tie.Need-value-at-requires
-value-at-requires c κs = search needs
-
 returns : tie.Need-returns
 unfolding constantFits
 returns c = rw (c .enum-told .given .1) (λ S s h. refl, c .before .before .before .before .before .before .before .pre .1 .1 .1)
@@ -57,9 +30,6 @@ returns c = rw (c .enum-told .given .1) (λ S s h. refl, c .before .before .befo
 returns-2 : tie.Need-returns-2
 unfolding constantFits
 returns-2 c = rw (c .enum-told2 .given .1) (λ S s h. refl, c .before .before .before .before .before .before .before .pre .1 .1 .1)
-
-same-length : tie.Need-same-length
-same-length c = search needs
 
 returns-3 : tie.Need-returns-3
 unfolding constantFits
@@ -76,20 +46,6 @@ returns-5 c = let v = c .before .value-at in rw (c .before .before .before .e3 .
 pub expression-fits-spec : {M : Type 1} → statement M
 expression-fits-spec =
     tie.close
-    (tie.spec
-    enum-told
-    enum-told-2
-    enum-known-e
-    cast-is-zeroable
-    is-zeroable-requires
-    enum-known-e-2
-    compose-fits-requires
-    enum-known-e-3
-    cast-value-at
-    value-at-requires
-    returns
-    returns-2
-    same-length
-    returns-3
-    returns-4
-    returns-5)
+    (tie.spec (λ c. search needs) (λ c. search needs) (λ c. search needs) (λ c. search needs) is-zeroable-requires
+    (λ c. search needs) (λ c κs. search needs) (λ c. search needs) (λ c. search needs) (λ c κs. search needs) returns returns-2
+    (λ c. search needs) returns-3 returns-4 returns-5)

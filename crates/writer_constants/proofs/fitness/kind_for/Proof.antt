@@ -12,11 +12,8 @@ returns : tie.Need-returns
 unfolding kindOf
 returns c = λ w. let k = c .before .args .k in rw (ne-eqb k 0 (λ e. omega arith), ne-eqb k 1 (λ e. omega arith), ne-eqb k 2 (λ e. omega arith))
 
-kind-of-requires : tie.Need-kind-of-requires
-kind-of-requires c κs = search needs
-
 returns-2 : tie.Need-returns-2
 returns-2 c = λ w. ap (λ (k : ℕ). kindOf k w) (c .kind-of .ensures (omega arith))
 
 pub kind-for-spec : {M : Type 1} → statement M
-kind-for-spec = tie.close (tie.spec returns kind-of-requires returns-2)
+kind-for-spec = tie.close (tie.spec returns (λ c κs. search needs) returns-2)

@@ -23,15 +23,6 @@ Inv-loop tables w b n d from p₀ k₀ i₀ q₀ p k i q = (p + 300 * k ≤ 8000
 abbrev μ-loop : tie.MeasureT-loop
 μ-loop tables w b n d from p₀ k₀ i₀ q₀ p k i q = k
 
-add-p : tie.Need-add-p Inv-loop μ-loop
-add-p c = search needs
-
-add-u8-at : tie.Need-add-u8-at Inv-loop μ-loop
-add-u8-at c = search needs
-
-u8-at-requires : tie.Need-u8-at-requires Inv-loop μ-loop
-u8-at-requires c κs = search needs
-
 loop-holds : tie.Need-loop-holds Inv-loop μ-loop
 loop-holds c = let a = c .before .before .before .before .args in let z : a .n ≡ a .n - 0 = omega arith in let e = sym (c .u8-at .ensures) in
     (omega arith, omega arith, omega arith, λ S s h. λ j. membersFit s (memberTypes (membersAt (a .d .now) (a .from + 5) (e j))) (u16sAt (a .b .now) 4 (z j)))
@@ -40,21 +31,6 @@ returns : tie.Need-returns Inv-loop μ-loop
 returns c =
     let a = c .before .before .before .before .before .before .before .args in
     let l = c .before .before .loop in λ S s h. sym (l .inv .3 S s h ∙ parts-lack s (a .d .now) (l .p) (a .b .now) (l .q) (l .k) (l .k - 1) (a .n - l .i) (omega arith) (omega arith))
-
-u16-at-requires : tie.Need-u16-at-requires Inv-loop μ-loop
-u16-at-requires c κs = search needs
-
-cast-value-at : tie.Need-cast-value-at Inv-loop μ-loop
-cast-value-at c = search needs
-
-value-at-requires : tie.Need-value-at-requires Inv-loop μ-loop
-value-at-requires c κs = search needs
-
-u16-at-requires-2 : tie.Need-u16-at-requires-2 Inv-loop μ-loop
-u16-at-requires-2 c κs = search needs
-
-type-id-requires : tie.Need-type-id-requires Inv-loop μ-loop
-type-id-requires c κs = search needs
 
 returns-2 : tie.Need-returns-2 Inv-loop μ-loop
 returns-2 c =
@@ -66,24 +42,6 @@ returns-2 c =
     λ S s h. sym (l .inv .3 S s h ∙ member-other s (a .d .now) (l .p) (a .b .now) (l .q) (l .k) (l .k - 1) (a .n - l .i) (a .n - (l .i + 1)) (omega arith) (omega arith) (v .result .ty) (t .result)
     (type-read (u .result) (u16At (a .b .now) (l .q)) (a .w) (a .tables .now) (v .result) (v .ensures) (u .ensures) S s h)
     (t .ensures S s h ∙ ap (λ (j : ℕ). orElse 0 (idOf s (entry j))) (c .before .before .before .u16-at2 .ensures)) (c .if2 .taken))
-
-add-name-end : tie.Need-add-name-end Inv-loop μ-loop
-add-name-end c = search needs
-
-name-end-requires : tie.Need-name-end-requires Inv-loop μ-loop
-name-end-requires c κs = search needs
-
-sub-k : tie.Need-sub-k Inv-loop μ-loop
-sub-k c = search needs
-
-add-i : tie.Need-add-i Inv-loop μ-loop
-add-i c = search needs
-
-add-q : tie.Need-add-q Inv-loop μ-loop
-add-q c = search needs
-
-loop-less : tie.Need-loop-less Inv-loop μ-loop
-loop-less c = search needs
 
 loop-again : tie.Need-loop-again Inv-loop μ-loop
 loop-again c =
@@ -109,25 +67,7 @@ returns-3 c =
 pub members-fit-spec : {M : Type 1} → statement M
 members-fit-spec =
     tie.close
-    (tie.spec
-    Inv-loop
-    μ-loop
-    add-p
-    add-u8-at
-    u8-at-requires
-    loop-holds
-    returns
-    u16-at-requires
-    cast-value-at
-    value-at-requires
-    u16-at-requires-2
-    type-id-requires
-    returns-2
-    add-name-end
-    name-end-requires
-    sub-k
-    add-i
-    add-q
-    loop-less
-    loop-again
-    returns-3)
+    (tie.spec Inv-loop μ-loop (λ c. search needs) (λ c. search needs) (λ c κs. search needs) loop-holds returns
+    (λ c κs. search needs) (λ c. search needs) (λ c κs. search needs) (λ c κs. search needs) (λ c κs. search needs) returns-2
+    (λ c. search needs) (λ c κs. search needs) (λ c. search needs) (λ c. search needs) (λ c. search needs) (λ c. search needs)
+    loop-again returns-3)

@@ -16,63 +16,6 @@ use Rattle.writer_constants.proofs.Fitting.{vector-places, matrix-place
 use Rattle.writer_constants.proofs.fitness.places_fit.Statement.{statement}
 use Rattle.writer_constants.proofs.fitness.places_fit.Tie as tie
 
-name-end-requires : tie.Need-name-end-requires
-name-end-requires c κs = search needs
-
-add-u8-at : tie.Need-add-u8-at
-add-u8-at c = search needs
-
-u8-at-requires : tie.Need-u8-at-requires
-u8-at-requires c κs = search needs
-
-kind-for-requires : tie.Need-kind-for-requires
-kind-for-requires c κs = search needs
-
-add-u8-at-2 : tie.Need-add-u8-at-2
-add-u8-at-2 c = search needs
-
-u8-at-requires-2 : tie.Need-u8-at-requires-2
-u8-at-requires-2 c κs = search needs
-
-u8-at-requires-3 : tie.Need-u8-at-requires-3
-u8-at-requires-3 c κs = search needs
-
-cast-each-fits : tie.Need-cast-each-fits
-cast-each-fits c = search needs
-
-each-fits-requires : tie.Need-each-fits-requires
-each-fits-requires c κs = search needs
-
-add-u8-at-3 : tie.Need-add-u8-at-3
-add-u8-at-3 c = search needs
-
-u8-at-requires-4 : tie.Need-u8-at-requires-4
-u8-at-requires-4 c κs = search needs
-
-add-u8-at-4 : tie.Need-add-u8-at-4
-add-u8-at-4 c = search needs
-
-u8-at-requires-5 : tie.Need-u8-at-requires-5
-u8-at-requires-5 c κs = search needs
-
-vector-type-requires : tie.Need-vector-type-requires
-vector-type-requires c κs = search needs
-
-u8-at-requires-6 : tie.Need-u8-at-requires-6
-u8-at-requires-6 c κs = search needs
-
-cast-each-fits-2 : tie.Need-cast-each-fits-2
-cast-each-fits-2 c = search needs
-
-each-fits-requires-2 : tie.Need-each-fits-requires-2
-each-fits-requires-2 c κs = search needs
-
-add-u32-at : tie.Need-add-u32-at
-add-u32-at c = search needs
-
-u32-at-requires : tie.Need-u32-at-requires
-u32-at-requires c κs = search needs
-
 returns : tie.Need-returns
 returns c =
     let a = c .before .before .before .before .before .before .before .args in
@@ -80,15 +23,6 @@ returns c =
     let p = c .before .before .before .name-end in
     fit-by (a .tag) d (p .result) (p .ensures .0) (u16sAt (a .b .now) 4 (a .n)) (a .w) (a .tables .now) false nowhere
     (dynamic-places (a .tag) d (p .result) (c .before .before .match .keys3) (omega (arith, c .before .u32-at .ensures, c .if1 .taken))) (λ S s h. refl)
-
-u16-at-requires : tie.Need-u16-at-requires
-u16-at-requires c κs = search needs
-
-each-fits-requires-3 : tie.Need-each-fits-requires-3
-each-fits-requires-3 c κs = search needs
-
-members-fit-requires : tie.Need-members-fit-requires
-members-fit-requires c κs = search needs
 
 returns-2 : tie.Need-returns-2
 returns-2 c =
@@ -144,32 +78,8 @@ returns-6 c = let a = c .before .before .before .before .before .args in let d =
 pub places-fit-spec : {M : Type 1} → statement M
 places-fit-spec =
     tie.close
-    (tie.spec
-    name-end-requires
-    add-u8-at
-    u8-at-requires
-    kind-for-requires
-    add-u8-at-2
-    u8-at-requires-2
-    u8-at-requires-3
-    cast-each-fits
-    each-fits-requires
-    add-u8-at-3
-    u8-at-requires-4
-    add-u8-at-4
-    u8-at-requires-5
-    vector-type-requires
-    u8-at-requires-6
-    cast-each-fits-2
-    each-fits-requires-2
-    add-u32-at
-    u32-at-requires
-    returns
-    u16-at-requires
-    each-fits-requires-3
-    members-fit-requires
-    returns-2
-    returns-3
-    returns-4
-    returns-5
-    returns-6)
+    (tie.spec (λ c κs. search needs) (λ c. search needs) (λ c κs. search needs) (λ c κs. search needs) (λ c. search needs)
+    (λ c κs. search needs) (λ c κs. search needs) (λ c. search needs) (λ c κs. search needs) (λ c. search needs)
+    (λ c κs. search needs) (λ c. search needs) (λ c κs. search needs) (λ c κs. search needs) (λ c κs. search needs)
+    (λ c. search needs) (λ c κs. search needs) (λ c. search needs) (λ c κs. search needs) returns (λ c κs. search needs)
+    (λ c κs. search needs) (λ c κs. search needs) returns-2 returns-3 returns-4 returns-5 returns-6)

@@ -5,21 +5,9 @@ use Rattle.writer_globals.proofs.Notes.{storage-access, other-access}
 use Rattle.writer_globals.proofs.decorations.access_of.Statement.{statement}
 use Rattle.writer_globals.proofs.decorations.access_of.Tie as tie
 
-space-number-requires : tie.Need-space-number-requires
-space-number-requires c κs = search needs
-
-space-access-requires : tie.Need-space-access-requires
-space-access-requires c κs = search needs
-
 returns : tie.Need-returns
 returns c = let a = c .before .before .before .before .before .args in
     λ b. storage-access (typesFrom (a .s .now) (a .types .now) (a .n)) (a .g) b (c .before .before .space-number .result) (c .before .before .space-number .ensures .0) (c .before .if1 .taken) (c .space-access .ensures)
-
-cast-image-access : tie.Need-cast-image-access
-cast-image-access c = search needs
-
-image-access-requires : tie.Need-image-access-requires
-image-access-requires c κs = search needs
 
 returns-2 : tie.Need-returns-2
 returns-2 c = let a = c .before .before .before .before .before .before .args in
@@ -28,10 +16,4 @@ returns-2 c = let a = c .before .before .before .before .before .before .args in
 pub access-of-spec : {M : Type 1} → statement M
 access-of-spec =
     tie.close
-    (tie.spec
-    space-number-requires
-    space-access-requires
-    returns
-    cast-image-access
-    image-access-requires
-    returns-2)
+    (tie.spec (λ c κs. search needs) (λ c κs. search needs) returns (λ c. search needs) (λ c κs. search needs) returns-2)

@@ -9,40 +9,13 @@ use Rattle.writer_globals.proofs.Notes.{kept-still, not-storage, no-bas
 use Rattle.writer_globals.proofs.decorations.block_base.Statement.{statement}
 use Rattle.writer_globals.proofs.decorations.block_base.Tie as tie
 
-space-number-requires : tie.Need-space-number-requires
-space-number-requires c κs = search needs
-
 returns : tie.Need-returns
 returns c = let a = c .before .before .before .before .args in
     kept-still (annotating 3) (a .w) (a .tables .now) (a .sections .now) (not-storage (spaceNumber (a .space)) (c .before .space-number .result) (c .before .space-number .ensures .0) (indexOf (a .base)) (c .if1 .taken))
 
-enum-told : tie.Need-enum-told
-enum-told c = search needs
-
-enum-known-base : tie.Need-enum-known-base
-enum-known-base c = search needs
-
-get-type-id-requires : tie.Need-get-type-id-requires
-get-type-id-requires c κs = search needs
-
-low-word-requires : tie.Need-low-word-requires
-low-word-requires c κs = search needs
-
-slice-aggregate-annotate : tie.Need-slice-aggregate-annotate
-slice-aggregate-annotate c = search needs
-
-annotate-requires : tie.Need-annotate-requires
-annotate-requires c κs = search needs
-
 returns-2 : tie.Need-returns-2
 returns-2 c = let a = c .before .before .before .before .before .before .args in
     kept-still (annotating 3) (a .w) (a .tables .now) (a .sections .now) (no-base (spaceNumber (a .space)) (c .before .before .before .space-number .result) (c .before .before .before .space-number .ensures .0) (indexOf (a .base)) (c .before .before .if1 .left) (ap indexOf (c .enum-told .given .1)))
-
-same-length : tie.Need-same-length
-same-length c = search needs
-
-same-length-2 : tie.Need-same-length-2
-same-length-2 c = search needs
 
 returns-3 : tie.Need-returns-3
 returns-3 c =
@@ -58,16 +31,5 @@ returns-3 c =
 pub block-base-spec : {M : Type 1} → statement M
 block-base-spec =
     tie.close
-    (tie.spec
-    space-number-requires
-    returns
-    enum-told
-    enum-known-base
-    get-type-id-requires
-    low-word-requires
-    slice-aggregate-annotate
-    annotate-requires
-    returns-2
-    same-length
-    same-length-2
-    returns-3)
+    (tie.spec (λ c κs. search needs) returns (λ c. search needs) (λ c. search needs) (λ c κs. search needs) (λ c κs. search needs)
+    (λ c. search needs) (λ c κs. search needs) returns-2 (λ c. search needs) (λ c. search needs) returns-3)

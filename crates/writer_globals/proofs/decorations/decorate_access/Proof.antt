@@ -9,24 +9,9 @@ use Rattle.writer_globals.proofs.Notes.{still, both-ways}
 use Rattle.writer_globals.proofs.decorations.decorate_access.Statement.{statement}
 use Rattle.writer_globals.proofs.decorations.decorate_access.Tie as tie
 
-enum-told : tie.Need-enum-told
-enum-told c = search needs
-
-enum-known-a : tie.Need-enum-known-a
-enum-known-a c = search needs
-
-decorate-if-requires : tie.Need-decorate-if-requires
-decorate-if-requires c κs = search needs
-
-decorate-if-requires-2 : tie.Need-decorate-if-requires-2
-decorate-if-requires-2 c κs = search needs
-
 returns : tie.Need-returns
 returns c = let a = c .before .before .before .args in
     still (annotating 6) (a .w) (a .sections .now) (λ s. ap (λ (x : Access). decorateAccess (byteOf x) (a .id) s) (c .enum-told .given .1))
-
-same-length : tie.Need-same-length
-same-length c = search needs
 
 returns-2 : tie.Need-returns-2
 returns-2 c =
@@ -39,11 +24,5 @@ returns-2 c =
 pub decorate-access-spec : {M : Type 1} → statement M
 decorate-access-spec =
     tie.close
-    (tie.spec
-    enum-told
-    enum-known-a
-    decorate-if-requires
-    decorate-if-requires-2
-    returns
-    same-length
+    (tie.spec (λ c. search needs) (λ c. search needs) (λ c κs. search needs) (λ c κs. search needs) returns (λ c. search needs)
     returns-2)

@@ -10,33 +10,9 @@ use Rattle.writer_globals.proofs.Notes.{still, bound}
 use Rattle.writer_globals.proofs.decorations.decorate_binding.Statement.{statement}
 use Rattle.writer_globals.proofs.decorations.decorate_binding.Tie as tie
 
-enum-told : tie.Need-enum-told
-enum-told c = search needs
-
-enum-known-binding : tie.Need-enum-known-binding
-enum-known-binding c = search needs
-
-low-word-requires : tie.Need-low-word-requires
-low-word-requires c κs = search needs
-
-slice-aggregate-annotate : tie.Need-slice-aggregate-annotate
-slice-aggregate-annotate c = search needs
-
-annotate-requires : tie.Need-annotate-requires
-annotate-requires c κs = search needs
-
-slice-aggregate-annotate-2 : tie.Need-slice-aggregate-annotate-2
-slice-aggregate-annotate-2 c = search needs
-
-annotate-requires-2 : tie.Need-annotate-requires-2
-annotate-requires-2 c κs = search needs
-
 returns : tie.Need-returns
 returns c = let a = c .before .before .before .args in
     still (annotating 8) (a .w) (a .sections .now) (λ s. ap (λ (b : Binding). bindingDecorated b (a .id) s) (c .enum-told .given .1))
-
-same-length : tie.Need-same-length
-same-length c = search needs
 
 returns-2 : tie.Need-returns-2
 returns-2 c =
@@ -51,14 +27,5 @@ returns-2 c =
 pub decorate-binding-spec : {M : Type 1} → statement M
 decorate-binding-spec =
     tie.close
-    (tie.spec
-    enum-told
-    enum-known-binding
-    low-word-requires
-    slice-aggregate-annotate
-    annotate-requires
-    slice-aggregate-annotate-2
-    annotate-requires-2
-    returns
-    same-length
-    returns-2)
+    (tie.spec (λ c. search needs) (λ c. search needs) (λ c κs. search needs) (λ c. search needs) (λ c κs. search needs)
+    (λ c. search needs) (λ c κs. search needs) returns (λ c. search needs) returns-2)

@@ -11,18 +11,6 @@ use Rattle.writer_globals.proofs.Notes.{still, if-there}
 use Rattle.writer_globals.proofs.decorations.decorate_if.Statement.{statement}
 use Rattle.writer_globals.proofs.decorations.decorate_if.Tie as tie
 
-low-word-requires : tie.Need-low-word-requires
-low-word-requires c κs = search needs
-
-slice-aggregate-annotate : tie.Need-slice-aggregate-annotate
-slice-aggregate-annotate c = search needs
-
-annotate-requires : tie.Need-annotate-requires
-annotate-requires c κs = search needs
-
-same-length : tie.Need-same-length
-same-length c = search needs
-
 returns : tie.Need-returns
 returns c =
     let c₁ = c .before .before .before .before in
@@ -37,11 +25,4 @@ returns-2 c = let a = c .before .before .args in
 
 pub decorate-if-spec : {M : Type 1} → statement M
 decorate-if-spec =
-    tie.close
-    (tie.spec
-    low-word-requires
-    slice-aggregate-annotate
-    annotate-requires
-    same-length
-    returns
-    returns-2)
+    tie.close (tie.spec (λ c κs. search needs) (λ c. search needs) (λ c κs. search needs) (λ c. search needs) returns returns-2)

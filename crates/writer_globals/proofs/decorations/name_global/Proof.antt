@@ -14,18 +14,9 @@ returns : tie.Need-returns
 returns c = let a = c .before .before .before .args in
     still (naming (nameEnd (a .b .now) 0 + 2)) (a .w) (a .sections .now) (unnamed (a .debug) (a .id) (a .b .now) (not-true (a .debug) (c .if1 .taken)))
 
-u8-at-requires : tie.Need-u8-at-requires
-u8-at-requires c κs = search needs
-
 returns-2 : tie.Need-returns-2
 returns-2 c = let a = c .before .before .before .before .before .args in
     still (naming (nameEnd (a .b .now) 0 + 2)) (a .w) (a .sections .now) (nameless (a .debug) (a .id) (a .b .now) (not-false (a .debug) (c .before .before .if1 .left)) (c .before .u8-at .ensures) (c .if2 .taken))
-
-cast-part : tie.Need-cast-part
-cast-part c = search needs
-
-part-requires : tie.Need-part-requires
-part-requires c κs = search needs
 
 label-requires : tie.Need-label-requires
 label-requires c κs =
@@ -35,9 +26,6 @@ label-requires c κs =
     let a = c₃ .args in
     let q = short (a .debug) (a .id) (a .b .now) (not-false (a .debug) (c₂ .if1 .left)) (c₁ .u8-at .ensures) (c .before .before .if2 .left) (c .part .ensures) in
     (omega (arith, q .0, c₃ .fits, c .before .before .if2 .left), omega (arith, q .0, q .1, c₃ .pre))
-
-same-length : tie.Need-same-length
-same-length c = search needs
 
 returns-3 : tie.Need-returns-3
 returns-3 c =
@@ -52,12 +40,5 @@ returns-3 c =
 pub name-global-spec : {M : Type 1} → statement M
 name-global-spec =
     tie.close
-    (tie.spec
-    returns
-    u8-at-requires
-    returns-2
-    cast-part
-    part-requires
-    label-requires
-    same-length
-    returns-3)
+    (tie.spec returns (λ c κs. search needs) returns-2 (λ c. search needs) (λ c κs. search needs) label-requires
+    (λ c. search needs) returns-3)

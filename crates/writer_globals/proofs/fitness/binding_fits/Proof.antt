@@ -6,12 +6,6 @@ use Rattle.writer_globals.proofs.Chain.{not-bound, bound-in, bound-else
 use Rattle.writer_globals.proofs.fitness.binding_fits.Statement.{statement}
 use Rattle.writer_globals.proofs.fitness.binding_fits.Tie as tie
 
-enum-told : tie.Need-enum-told
-enum-told c = search needs
-
-enum-told-2 : tie.Need-enum-told-2
-enum-told-2 c = search needs
-
 returns : tie.Need-returns
 returns c = not-bound (c .before .before .args .binding) (c .before .before .args .space) (ap boundNumber (c .enum-told .given .1))
 
@@ -29,4 +23,4 @@ returns-5 c = bound-elsewhere (c .before .before .before .args .binding) (c .bef
 
 pub binding-fits-spec : {M : Type 1} → statement M
 binding-fits-spec =
-    tie.close (tie.spec enum-told enum-told-2 returns returns-2 returns-3 returns-4 returns-5)
+    tie.close (tie.spec (λ c. search needs) (λ c. search needs) returns returns-2 returns-3 returns-4 returns-5)

@@ -11,21 +11,12 @@ use Rattle.writer_globals.proofs.fitness.global_fits.Tie as tie
 
 -- What was taken from the record is its global, by test 10.
 
-body-of-requires : tie.Need-body-of-requires
-body-of-requires c κs = search needs
-
-global-of-requires : tie.Need-global-of-requires
-global-of-requires c κs = search needs
-
 variable-fits-requires : tie.Need-variable-fits-requires
 variable-fits-requires c κs =
     let c₁ = c .before .before .before .before .before .before .before .before in
     let a = c₁ .args in
     let e = as-read (recordAt (a .rest .now)) (c₁ .pre .1) (c .before .before .body-of .ensures) (c .before .global-of .result) (c .before .global-of .ensures) in
     (c₁ .pre .0, omega (arith, ap (λ (g : Global). g .type) e, c₁ .pre .1 .type), c₁ .pre .2, c₁ .pre .3)
-
-same-length : tie.Need-same-length
-same-length c = search needs
 
 returns : tie.Need-returns
 returns c =
@@ -38,5 +29,4 @@ returns c =
 
 pub global-fits-spec : {M : Type 1} → statement M
 global-fits-spec =
-    tie.close
-    (tie.spec body-of-requires global-of-requires variable-fits-requires same-length returns)
+    tie.close (tie.spec (λ c κs. search needs) (λ c κs. search needs) variable-fits-requires (λ c. search needs) returns)

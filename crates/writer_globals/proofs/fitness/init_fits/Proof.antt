@@ -6,23 +6,8 @@ use Rattle.writer_globals.proofs.Chain.{no-init, elsewhere, of-type}
 use Rattle.writer_globals.proofs.fitness.init_fits.Statement.{statement}
 use Rattle.writer_globals.proofs.fitness.init_fits.Tie as tie
 
-enum-told : tie.Need-enum-told
-enum-told c = search needs
-
-enum-known-init : tie.Need-enum-known-init
-enum-known-init c = search needs
-
 returns : tie.Need-returns
 returns c = λ S s h g es et. elsewhere s g es et (constantOf (c .before .before .before .before .before .args .init)) (ap constantOf (c .before .before .init .given .1)) (c .if1 .taken)
-
-cast-value-at : tie.Need-cast-value-at
-cast-value-at c = search needs
-
-value-at-requires : tie.Need-value-at-requires
-value-at-requires c κs = search needs
-
-type-id-requires : tie.Need-type-id-requires
-type-id-requires c κs = search needs
 
 returns-2 : tie.Need-returns-2
 returns-2 c = λ S s h g es et. no-init s g es et (constantOf (c .before .before .before .args .init)) (ap constantOf (c .enum-told .given .1))
@@ -37,12 +22,5 @@ returns-3 c =
 pub init-fits-spec : {M : Type 1} → statement M
 init-fits-spec =
     tie.close
-    (tie.spec
-    enum-told
-    enum-known-init
-    returns
-    cast-value-at
-    value-at-requires
-    type-id-requires
-    returns-2
-    returns-3)
+    (tie.spec (λ c. search needs) (λ c. search needs) returns (λ c. search needs) (λ c κs. search needs) (λ c κs. search needs)
+    returns-2 returns-3)

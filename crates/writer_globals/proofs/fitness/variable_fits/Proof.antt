@@ -9,9 +9,6 @@ use Rattle.writer_globals.proofs.Chain.{decided}
 use Rattle.writer_globals.proofs.fitness.variable_fits.Statement.{statement}
 use Rattle.writer_globals.proofs.fitness.variable_fits.Tie as tie
 
-space-number-requires : tie.Need-space-number-requires
-space-number-requires c κs = search needs
-
 returns : tie.Need-returns
 returns c = let a = c .before .before .before .before .before .before .args in
     λ b. record {
@@ -19,12 +16,6 @@ returns c = let a = c .before .before .before .before .before .before .args in
           decided (typesFrom (a .s .now) (a .types .now) (a .n)) x (globalOf b (a .g)) (c .before .space-number .ensures .0) (sym (eq-eqb (c .before .space-number .result) 0 (c .if1 .taken))) refl refl refl refl refl;
       memo = c .before .before .before .before .before .before .pre .3;
     }
-
-cast-is-pointer : tie.Need-cast-is-pointer
-cast-is-pointer c = search needs
-
-is-pointer-requires : tie.Need-is-pointer-requires
-is-pointer-requires c κs = search needs
 
 returns-2 : tie.Need-returns-2
 returns-2 c =
@@ -38,9 +29,6 @@ returns-2 c =
           (sym (c .if2 .taken) ∙ c .before .is-pointer .ensures) refl refl refl refl;
       memo = c₃ .pre .3;
     }
-
-binding-fits-requires : tie.Need-binding-fits-requires
-binding-fits-requires c κs = search needs
 
 returns-3 : tie.Need-returns-3
 returns-3 c =
@@ -56,9 +44,6 @@ returns-3 c =
           (sym (not-true (c .before .binding-fits .result) (c .if3 .taken)) ∙ c .before .binding-fits .ensures) refl refl refl;
       memo = c₄ .pre .3;
     }
-
-init-fits-requires : tie.Need-init-fits-requires
-init-fits-requires c κs = search needs
 
 returns-4 : tie.Need-returns-4
 returns-4 c =
@@ -77,18 +62,6 @@ returns-4 c =
           (sym (not-true (c .before .init-fits .result) (c .if4 .taken)) ∙ c .before .init-fits .ensures S x h (globalOf b (a .g)) (sym (c₅ .space-number .ensures .0)) refl) refl refl;
       memo = c₆ .pre .3;
     }
-
-is-zeroed-requires : tie.Need-is-zeroed-requires
-is-zeroed-requires c κs = search needs
-
-cast-is-zeroable : tie.Need-cast-is-zeroable
-cast-is-zeroable c = search needs
-
-is-zeroable-requires : tie.Need-is-zeroable-requires
-is-zeroable-requires c κs = search needs
-
-same-length : tie.Need-same-length
-same-length c = search needs
 
 returns-5 : tie.Need-returns-5
 returns-5 c =
@@ -138,19 +111,6 @@ returns-6 c =
 pub variable-fits-spec : {M : Type 1} → statement M
 variable-fits-spec =
     tie.close
-    (tie.spec
-    space-number-requires
-    returns
-    cast-is-pointer
-    is-pointer-requires
-    returns-2
-    binding-fits-requires
-    returns-3
-    init-fits-requires
-    returns-4
-    is-zeroed-requires
-    cast-is-zeroable
-    is-zeroable-requires
-    same-length
-    returns-5
-    returns-6)
+    (tie.spec (λ c κs. search needs) returns (λ c. search needs) (λ c κs. search needs) returns-2 (λ c κs. search needs) returns-3
+    (λ c κs. search needs) returns-4 (λ c κs. search needs) (λ c. search needs) (λ c κs. search needs) (λ c. search needs)
+    returns-5 returns-6)

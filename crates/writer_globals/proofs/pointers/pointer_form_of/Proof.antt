@@ -11,38 +11,11 @@ use Rattle.writer_globals.proofs.PointerForms.{is-wrapped, no-array, no
 use Rattle.writer_globals.proofs.pointers.pointer_form_of.Statement.{statement}
 use Rattle.writer_globals.proofs.pointers.pointer_form_of.Tie as tie
 
-cast-ty : tie.Need-cast-ty
-cast-ty c = search needs
-
-global-needs-wrapper-requires : tie.Need-global-needs-wrapper-requires
-global-needs-wrapper-requires c κs = search needs
-
-element-stride-requires : tie.Need-element-stride-requires
-element-stride-requires c κs = search needs
-
 returns : tie.Need-returns
 returns c = let a = c .before .before .before .before .before .before .before .args in
     let ts = typesFrom (a .s .now) (a .types .now) (a .n) in
     let rs = map (remapFrom (a .s .now)) (take (a .m) (a .remaps .now)) in
     λ b x. is-wrapped ts rs (a .g) b x (sym (c .before .before .global-needs-wrapper .ensures (globalOf b (a .g)) refl refl) ∙ c .before .if1 .taken) (c .element-stride .result) (c .element-stride .ensures)
-
-binding-base-requires : tie.Need-binding-base-requires
-binding-base-requires c κs = search needs
-
-enum-told : tie.Need-enum-told
-enum-told c = search needs
-
-enum-known-base : tie.Need-enum-known-base
-enum-known-base c = search needs
-
-remapped-size-requires : tie.Need-remapped-size-requires
-remapped-size-requires c κs = search needs
-
-enum-told-2 : tie.Need-enum-told-2
-enum-told-2 c = search needs
-
-enum-known-size : tie.Need-enum-known-size
-enum-known-size c = search needs
 
 returns-2 : tie.Need-returns-2
 returns-2 c =
@@ -82,17 +55,5 @@ returns-4 c =
 pub pointer-form-of-spec : {M : Type 1} → statement M
 pointer-form-of-spec =
     tie.close
-    (tie.spec
-    cast-ty
-    global-needs-wrapper-requires
-    element-stride-requires
-    returns
-    binding-base-requires
-    enum-told
-    enum-known-base
-    remapped-size-requires
-    enum-told-2
-    enum-known-size
-    returns-2
-    returns-3
-    returns-4)
+    (tie.spec (λ c. search needs) (λ c κs. search needs) (λ c κs. search needs) returns (λ c κs. search needs) (λ c. search needs)
+    (λ c. search needs) (λ c κs. search needs) (λ c. search needs) (λ c. search needs) returns-2 returns-3 returns-4)

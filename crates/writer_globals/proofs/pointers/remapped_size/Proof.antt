@@ -8,22 +8,10 @@ use Rattle.writer_globals.specs.Globals.{sizeFor}
 use Rattle.writer_globals.proofs.pointers.remapped_size.Statement.{statement}
 use Rattle.writer_globals.proofs.pointers.remapped_size.Tie as tie
 
-enum-told : tie.Need-enum-told
-enum-told c = search needs
-
-enum-known-binding : tie.Need-enum-known-binding
-enum-known-binding c = search needs
-
-remap-of-requires : tie.Need-remap-of-requires
-remap-of-requires c κs = search needs
-
-returns : tie.Need-returns
-returns c = search needs
-
 returns-2 : tie.Need-returns-2
 returns-2 c = let a = c .before .before .before .before .before .before .args in
     c .remap-of .ensures ∙ sym (ap (sizeFor (map (remapFrom (a .s .now)) (take (a .m) (a .remaps .now)))) (c .before .before .binding .given .1))
 
 pub remapped-size-spec : {M : Type 1} → statement M
 remapped-size-spec =
-    tie.close (tie.spec enum-told enum-known-binding remap-of-requires returns returns-2)
+    tie.close (tie.spec (λ c. search needs) (λ c. search needs) (λ c κs. search needs) (λ c. search needs) returns-2)

@@ -11,35 +11,8 @@ use Rattle.writer_globals.proofs.PointerForms.{class-low, cheaper, by-d
 use Rattle.writer_globals.proofs.pointers.write_pointer.Statement.{statement}
 use Rattle.writer_globals.proofs.pointers.write_pointer.Tie as tie
 
-map-storage-class-requires : tie.Need-map-storage-class-requires
-map-storage-class-requires c κs = search needs
-
-enum-told : tie.Need-enum-told
-enum-told c = search needs
-
 cast-t15 : tie.Need-cast-t15
 cast-t15 c = omega (arith, c .before .before .map-storage-class .ensures, class-low (spaceNumber (c .before .before .before .before .before .args .g .space)))
-
-get-type-id-requires : tie.Need-get-type-id-requires
-get-type-id-requires c κs = search needs
-
-enum-known-form : tie.Need-enum-known-form
-enum-known-form c = search needs
-
-write-wrapper-requires : tie.Need-write-wrapper-requires
-write-wrapper-requires c κs = search needs
-
-enum-known-form-2 : tie.Need-enum-known-form-2
-enum-known-form-2 c = search needs
-
-get-type-id-requires-2 : tie.Need-get-type-id-requires-2
-get-type-id-requires-2 c κs = search needs
-
-same-length : tie.Need-same-length
-same-length c = search needs
-
-same-length-2 : tie.Need-same-length-2
-same-length-2 c = search needs
 
 returns : tie.Need-returns
 returns c =
@@ -50,12 +23,6 @@ returns c =
     let a = c₄ .args in
     cheaper pointerCost (omega arith) (λ s. by-direct (a .form) (a .g) (c₃ .map-storage-class .ensures) s (c₂ .enum-told .given .1)) (c₁ .get-type-id .ensures)
 
-same-length-3 : tie.Need-same-length-3
-same-length-3 c = search needs
-
-same-length-4 : tie.Need-same-length-4
-same-length-4 c = search needs
-
 returns-2 : tie.Need-returns-2
 returns-2 c =
     let c₁ = c .before .before .before .before in
@@ -64,12 +31,6 @@ returns-2 c =
     let c₄ = c₃ .before .before .before in
     let a = c₄ .args in
     cheaper pointerCost (omega arith) (λ s. by-wrapper (a .form) (a .g) (c₃ .map-storage-class .ensures) s (c₂ .form .given .1)) (c₁ .write-wrapper .ensures)
-
-same-length-5 : tie.Need-same-length-5
-same-length-5 c = search needs
-
-same-length-6 : tie.Need-same-length-6
-same-length-6 c = search needs
 
 returns-3 : tie.Need-returns-3
 returns-3 c =
@@ -82,21 +43,6 @@ returns-3 c =
 pub write-pointer-spec : {M : Type 1} → statement M
 write-pointer-spec =
     tie.close
-    (tie.spec
-    map-storage-class-requires
-    enum-told
-    cast-t15
-    get-type-id-requires
-    enum-known-form
-    write-wrapper-requires
-    enum-known-form-2
-    get-type-id-requires-2
-    same-length
-    same-length-2
-    returns
-    same-length-3
-    same-length-4
-    returns-2
-    same-length-5
-    same-length-6
-    returns-3)
+    (tie.spec (λ c κs. search needs) (λ c. search needs) cast-t15 (λ c κs. search needs) (λ c. search needs)
+    (λ c κs. search needs) (λ c. search needs) (λ c κs. search needs) (λ c. search needs) (λ c. search needs) returns
+    (λ c. search needs) (λ c. search needs) returns-2 (λ c. search needs) (λ c. search needs) returns-3)

@@ -8,24 +8,6 @@ use Rattle.writer_globals.proofs.PointerForms.{room-stride, room-find, 
 use Rattle.writer_globals.proofs.pointers.write_wrapper.Statement.{statement}
 use Rattle.writer_globals.proofs.pointers.write_wrapper.Tie as tie
 
-take-id-requires : tie.Need-take-id-requires
-take-id-requires c κs = search needs
-
-low-word-requires : tie.Need-low-word-requires
-low-word-requires c κs = search needs
-
-slice-aggregate-annotate : tie.Need-slice-aggregate-annotate
-slice-aggregate-annotate c = search needs
-
-annotate-requires : tie.Need-annotate-requires
-annotate-requires c κs = search needs
-
-slice-aggregate-annotate-2 : tie.Need-slice-aggregate-annotate-2
-slice-aggregate-annotate-2 c = search needs
-
-annotate-requires-2 : tie.Need-annotate-requires-2
-annotate-requires-2 c κs = search needs
-
 stride-member-requires : tie.Need-stride-member-requires
 stride-member-requires c κs =
     let c₁ = c .before .before .before in
@@ -42,12 +24,6 @@ get-type-id-requires c κs =
     let c₄ = c₃ .before .before .before .before in
     let c₅ = c₄ .before .before .before in
     room-find (c₅ .pre) (c₄ .take-id .ensures .grown) (c₃ .annotate .ensures .grown) (c₂ .annotate2 .ensures .grown) (c₁ .stride-member .ensures .grown) (c₁ .stride-member .kept .0 ∙ c₂ .annotate2 .kept .0 ∙ c₃ .annotate .kept .0)
-
-low-word-requires-2 : tie.Need-low-word-requires-2
-low-word-requires-2 c κs = search needs
-
-slice-aggregate-declare : tie.Need-slice-aggregate-declare
-slice-aggregate-declare c = search needs
 
 declare-requires : tie.Need-declare-requires
 declare-requires c κs =
@@ -68,12 +44,6 @@ take-id-requires-2 c κs =
     let c₅ = c₄ .before .before .before .before in
     let c₆ = c₅ .before .before .before in
     room-id (c₆ .pre) (c₅ .take-id .ensures .grown) (c₄ .annotate .ensures .grown) (c₃ .annotate2 .ensures .grown) (c₂ .stride-member .ensures .grown) (c₁ .get-type-id .ensures .grown) (c .before .before .declare .ensures .grown)
-
-low-word-requires-3 : tie.Need-low-word-requires-3
-low-word-requires-3 c κs = search needs
-
-slice-aggregate-declare-2 : tie.Need-slice-aggregate-declare-2
-slice-aggregate-declare-2 c = search needs
 
 declare-requires-2 : tie.Need-declare-requires-2
 declare-requires-2 c κs =
@@ -118,22 +88,6 @@ returns c =
 pub write-wrapper-spec : {M : Type 1} → statement M
 write-wrapper-spec =
     tie.close
-    (tie.spec
-    take-id-requires
-    low-word-requires
-    slice-aggregate-annotate
-    annotate-requires
-    slice-aggregate-annotate-2
-    annotate-requires-2
-    stride-member-requires
-    get-type-id-requires
-    low-word-requires-2
-    slice-aggregate-declare
-    declare-requires
-    take-id-requires-2
-    low-word-requires-3
-    slice-aggregate-declare-2
-    declare-requires-2
-    same-length
-    same-length-2
-    returns)
+    (tie.spec (λ c κs. search needs) (λ c κs. search needs) (λ c. search needs) (λ c κs. search needs) (λ c. search needs)
+    (λ c κs. search needs) stride-member-requires get-type-id-requires (λ c κs. search needs) (λ c. search needs) declare-requires
+    take-id-requires-2 (λ c κs. search needs) (λ c. search needs) declare-requires-2 same-length same-length-2 returns)

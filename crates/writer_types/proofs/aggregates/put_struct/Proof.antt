@@ -13,57 +13,12 @@ Inv-loop tables sections₀ w b id first count p₀ k₀ j₀ sections p k j = P
 abbrev μ-loop : tie.MeasureT-loop
 μ-loop tables sections₀ w b id first count p₀ k₀ j₀ sections p k j = k
 
-add-put-pending : tie.Need-add-put-pending Inv-loop μ-loop
-add-put-pending c = search needs
-
-mul-put-pending : tie.Need-mul-put-pending Inv-loop μ-loop
-mul-put-pending c = search needs
-
-add-put-pending-2 : tie.Need-add-put-pending-2 Inv-loop μ-loop
-add-put-pending-2 c = search needs
-
-put-pending-requires : tie.Need-put-pending-requires Inv-loop μ-loop
-put-pending-requires c κs = search needs
-
-low-word-requires : tie.Need-low-word-requires Inv-loop μ-loop
-low-word-requires c κs = search needs
-
-put-pending-requires-2 : tie.Need-put-pending-requires-2 Inv-loop μ-loop
-put-pending-requires-2 c κs = search needs
-
 loop-holds : tie.Need-loop-holds Inv-loop μ-loop
 loop-holds c = let a = c .before .before .before .before .before .before .before .before .before .before .before .before .args in
     let x = c .before .before .before .before .before .before .before .put-pending in
     let t = c .before .before .before .low-word in
     let y = c .before .before .put-pending2 in
     headed (a .b .now) (a .tables .now) (a .id) (a .first) (a .count) (omega (arith, c .before .before .before .before .before .before .before .before .before .before .before .before .fits)) (a .w) (a .sections .now) (x .last .0) (x .ensures) (t .result) (t .ensures) (y .last .0) (y .ensures)
-
-u16-at-requires : tie.Need-u16-at-requires Inv-loop μ-loop
-u16-at-requires c κs = search needs
-
-type-id-requires : tie.Need-type-id-requires Inv-loop μ-loop
-type-id-requires c κs = search needs
-
-low-word-requires-2 : tie.Need-low-word-requires-2 Inv-loop μ-loop
-low-word-requires-2 c κs = search needs
-
-put-pending-requires-3 : tie.Need-put-pending-requires-3 Inv-loop μ-loop
-put-pending-requires-3 c κs = search needs
-
-add-name-end : tie.Need-add-name-end Inv-loop μ-loop
-add-name-end c = search needs
-
-name-end-requires : tie.Need-name-end-requires Inv-loop μ-loop
-name-end-requires c κs = search needs
-
-add-j : tie.Need-add-j Inv-loop μ-loop
-add-j c = search needs
-
-sub-k : tie.Need-sub-k Inv-loop μ-loop
-sub-k c = search needs
-
-loop-less : tie.Need-loop-less Inv-loop μ-loop
-loop-less c = search needs
 
 loop-again : tie.Need-loop-again Inv-loop μ-loop
 loop-again c = let a = c .before .before .before .before .before .before .before .before .before .before .before .before .before .before .before .before .before .before .before .before .before .before .args in
@@ -76,9 +31,6 @@ loop-again c = let a = c .before .before .before .before .before .before .before
     let e = c .name-end in
     next (a .b .now) (a .tables .now) (a .id) (a .first) (a .count) (omega (arith, c .before .before .before .before .before .before .before .before .before .before .before .before .before .before .before .before .before .before .before .before .before .before .fits)) (a .w) (y .last .0) (l .sections) (l .p) (l .k) (l .j) (l .inv) (c .before .before .before .before .before .before .before .before .loop-test .taken)
     (t .result) (x .result) (z .result) (e .result) (t .ensures) (x .ensures) (z .ensures) (e .ensures .0) (omega (arith, e .ensures .1)) (d .last .0) (d .ensures) (d .kept .0)
-
-commit-requires : tie.Need-commit-requires Inv-loop μ-loop
-commit-requires c κs = search needs
 
 same-length : tie.Need-same-length Inv-loop μ-loop
 same-length c = c .before .before .loop .inv .size ∙ c .before .before .before .before .before .put-pending2 .kept .0 ∙ c .before .before .before .before .before .before .before .before .before .before .put-pending .kept .0
@@ -95,26 +47,7 @@ returns c = let a = c .before .before .before .before .before .before .before .b
 pub put-struct-spec : {M : Type 1} → statement M
 put-struct-spec =
     tie.close
-    (tie.spec
-    Inv-loop
-    μ-loop
-    add-put-pending
-    mul-put-pending
-    add-put-pending-2
-    put-pending-requires
-    low-word-requires
-    put-pending-requires-2
-    loop-holds
-    u16-at-requires
-    type-id-requires
-    low-word-requires-2
-    put-pending-requires-3
-    add-name-end
-    name-end-requires
-    add-j
-    sub-k
-    loop-less
-    loop-again
-    commit-requires
-    same-length
-    returns)
+    (tie.spec Inv-loop μ-loop (λ c. search needs) (λ c. search needs) (λ c. search needs) (λ c κs. search needs)
+    (λ c κs. search needs) (λ c κs. search needs) loop-holds (λ c κs. search needs) (λ c κs. search needs) (λ c κs. search needs)
+    (λ c κs. search needs) (λ c. search needs) (λ c κs. search needs) (λ c. search needs) (λ c. search needs) (λ c. search needs)
+    loop-again (λ c κs. search needs) same-length returns)

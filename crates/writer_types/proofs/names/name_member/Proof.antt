@@ -7,24 +7,15 @@ use Rattle.writer_types.proofs.Named.{unnamed, named, name-room}
 use Rattle.writer_types.proofs.names.name_member.Statement.{statement}
 use Rattle.writer_types.proofs.names.name_member.Tie as tie
 
-is-written-requires : tie.Need-is-written-requires
-is-written-requires c κs = search needs
-
 returns : tie.Need-returns
 returns c = let a = c .before .before .before .before .args in
     let x = c .before .is-written in
     unnamed 4 (memberName (a .id) (a .i)) (a .w) (a .sections .now) (a .debug) (nameAt (a .b .now) (a .p)) (x .result) (x .ensures) (c .if1 .taken)
 
-name-part-requires : tie.Need-name-part-requires
-name-part-requires c κs = search needs
-
 label-member-requires : tie.Need-label-member-requires
 label-member-requires c κs = let a = c .before .before .before .before .before .before .args in
     let y = c .name-part in
     name-room 4 (a .b .now) (a .p) (omega (arith, c .before .before .before .before .shared-slice-known .given (a .p))) (y .result .now) (y .ensures) (a .w) (a .sections .now) (c .before .before .before .before .before .before .pre .1)
-
-same-length : tie.Need-same-length
-same-length c = search needs
 
 returns-2 : tie.Need-returns-2
 returns-2 c = let a = c .before .before .before .before .before .before .before .before .before .args in
@@ -36,10 +27,4 @@ returns-2 c = let a = c .before .before .before .before .before .before .before 
 pub name-member-spec : {M : Type 1} → statement M
 name-member-spec =
     tie.close
-    (tie.spec
-    is-written-requires
-    returns
-    name-part-requires
-    label-member-requires
-    same-length
-    returns-2)
+    (tie.spec (λ c κs. search needs) returns (λ c κs. search needs) label-member-requires (λ c. search needs) returns-2)

@@ -7,24 +7,15 @@ use Rattle.writer_types.proofs.Named.{unnamed, named, name-room}
 use Rattle.writer_types.proofs.names.name_type.Statement.{statement}
 use Rattle.writer_types.proofs.names.name_type.Tie as tie
 
-is-written-requires : tie.Need-is-written-requires
-is-written-requires c κs = search needs
-
 returns : tie.Need-returns
 returns c = let a = c .before .before .before .before .args in
     let x = c .before .is-written in
     unnamed 3 (name (a .id)) (a .w) (a .sections .now) (a .debug) (nameAt (a .b .now) 0) (x .result) (x .ensures) (c .if1 .taken)
 
-name-part-requires : tie.Need-name-part-requires
-name-part-requires c κs = search needs
-
 label-requires : tie.Need-label-requires
 label-requires c κs = let a = c .before .before .before .before .before .before .args in
     let y = c .name-part in
     name-room 3 (a .b .now) 0 (omega (arith, c .before .before .before .before .shared-slice-known .given 0)) (y .result .now) (y .ensures) (a .w) (a .sections .now) (c .before .before .before .before .before .before .pre)
-
-same-length : tie.Need-same-length
-same-length c = search needs
 
 returns-2 : tie.Need-returns-2
 returns-2 c = let a = c .before .before .before .before .before .before .before .before .before .args in
@@ -35,5 +26,4 @@ returns-2 c = let a = c .before .before .before .before .before .before .before 
 
 pub name-type-spec : {M : Type 1} → statement M
 name-type-spec =
-    tie.close
-    (tie.spec is-written-requires returns name-part-requires label-requires same-length returns-2)
+    tie.close (tie.spec (λ c κs. search needs) returns (λ c κs. search needs) label-requires (λ c. search needs) returns-2)

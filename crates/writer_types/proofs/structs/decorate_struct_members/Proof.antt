@@ -24,21 +24,6 @@ decorate-struct-member-requires c κs = let a = c .before .before .before .befor
     let r = room-left (a .debug) (typesFrom (a .s .now) (a .types .now) (a .n)) (a .b .now) (a .id) (a .first) (a .count) (a .w) (a .sections .now) (l .v) (l .sections) (l .p) (l .k) (l .i) (l .inv) (c .before .loop-test .taken) in
     (p .0, (omega (arith, l .inv .place, p .1 .0, c .before .before .before .before .before .before .before .fits), omega (arith, r, l .inv .size, l .inv .grown, p .1 .1)))
 
-add-name-end : tie.Need-add-name-end Inv-loop μ-loop
-add-name-end c = search needs
-
-name-end-requires : tie.Need-name-end-requires Inv-loop μ-loop
-name-end-requires c κs = search needs
-
-add-i : tie.Need-add-i Inv-loop μ-loop
-add-i c = search needs
-
-sub-k : tie.Need-sub-k Inv-loop μ-loop
-sub-k c = search needs
-
-loop-less : tie.Need-loop-less Inv-loop μ-loop
-loop-less c = search needs
-
 loop-again : tie.Need-loop-again Inv-loop μ-loop
 loop-again c = let a = c .before .before .before .before .before .before .before .before .before .before .before .args in
     let l = c .before .before .before .before .before .before .loop in
@@ -58,16 +43,5 @@ returns c = let a = c .before .before .before .before .before .before .args in
 pub decorate-struct-members-spec : {M : Type 1} → statement M
 decorate-struct-members-spec =
     tie.close
-    (tie.spec
-    Inv-loop
-    μ-loop
-    loop-holds
-    decorate-struct-member-requires
-    add-name-end
-    name-end-requires
-    add-i
-    sub-k
-    loop-less
-    loop-again
-    same-length
-    returns)
+    (tie.spec Inv-loop μ-loop loop-holds decorate-struct-member-requires (λ c. search needs) (λ c κs. search needs)
+    (λ c. search needs) (λ c. search needs) (λ c. search needs) loop-again same-length returns)

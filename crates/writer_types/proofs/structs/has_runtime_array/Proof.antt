@@ -16,12 +16,6 @@ loop-holds : tie.Need-loop-holds Inv-loop μ-loop
 loop-holds c = let a = c .before .before .before .args in
     sought (typesFrom (a .s .now) (a .types .now) (a .n)) (a .b .now) (a .first) (a .count)
 
-u16-at-requires : tie.Need-u16-at-requires Inv-loop μ-loop
-u16-at-requires c κs = search needs
-
-cast-is-dynamic : tie.Need-cast-is-dynamic Inv-loop μ-loop
-cast-is-dynamic c = search needs
-
 is-dynamic-requires : tie.Need-is-dynamic-requires Inv-loop μ-loop
 is-dynamic-requires c κs = c .before .before .before .before .before .before .pre .0
 
@@ -31,18 +25,6 @@ returns c = let a = c .before .before .before .before .before .before .before .b
     let t = c .before .before .u16-at in
     let d = c .before .is-dynamic in
     hit (typesFrom (a .s .now) (a .types .now) (a .n)) (a .b .now) (a .first) (a .count) (l .p) (l .k) (l .inv) (c .before .before .before .loop-test .taken) (t .result) (t .ensures) (d .result) (d .ensures) (c .if1 .taken)
-
-add-name-end : tie.Need-add-name-end Inv-loop μ-loop
-add-name-end c = search needs
-
-name-end-requires : tie.Need-name-end-requires Inv-loop μ-loop
-name-end-requires c κs = search needs
-
-sub-k : tie.Need-sub-k Inv-loop μ-loop
-sub-k c = search needs
-
-loop-less : tie.Need-loop-less Inv-loop μ-loop
-loop-less c = search needs
 
 loop-again : tie.Need-loop-again Inv-loop μ-loop
 loop-again c = let a = c .before .before .before .before .before .before .before .before .before .args in
@@ -60,17 +42,5 @@ returns-2 c = let a = c .before .before .before .before .before .args in
 pub has-runtime-array-spec : {M : Type 1} → statement M
 has-runtime-array-spec =
     tie.close
-    (tie.spec
-    Inv-loop
-    μ-loop
-    loop-holds
-    u16-at-requires
-    cast-is-dynamic
-    is-dynamic-requires
-    returns
-    add-name-end
-    name-end-requires
-    sub-k
-    loop-less
-    loop-again
-    returns-2)
+    (tie.spec Inv-loop μ-loop loop-holds (λ c κs. search needs) (λ c. search needs) is-dynamic-requires returns
+    (λ c. search needs) (λ c κs. search needs) (λ c. search needs) (λ c. search needs) loop-again returns-2)

@@ -7,15 +7,6 @@ use Rattle.writer_types.proofs.Walking.{members-length}
 use Rattle.writer_types.proofs.structs.write_struct.Statement.{statement}
 use Rattle.writer_types.proofs.structs.write_struct.Tie as tie
 
-decorate-struct-members-requires : tie.Need-decorate-struct-members-requires
-decorate-struct-members-requires c κs = search needs
-
-has-runtime-array-requires : tie.Need-has-runtime-array-requires
-has-runtime-array-requires c κs = search needs
-
-block-if-requires : tie.Need-block-if-requires
-block-if-requires c κs = search needs
-
 put-struct-requires : tie.Need-put-struct-requires
 put-struct-requires c κs = let a = c .before .before .before .before .before .before .before .before .before .before .before .before .before .before .before .args in
     let p = c .before .before .before .before .before .before .before .before .before .before .before .before .before .before .before .pre in
@@ -23,9 +14,6 @@ put-struct-requires c κs = let a = c .before .before .before .before .before .b
     let y = c .before .before .before .block-if in
     let l = members-length (a .b .now) (a .first) (a .count) in
     (p .1 .0, (omega (arith, x .ensures .grown, y .ensures .grown, p .1 .1 .rows), omega (arith, l, x .ensures .grown, x .kept, y .ensures .grown, y .kept, p .1 .1 .words)))
-
-same-length : tie.Need-same-length
-same-length c = search needs
 
 returns : tie.Need-returns
 returns c = let a = c .before .before .before .before .before .before .before .before .before .before .before .before .before .before .before .before .before .before .args in
@@ -39,10 +27,4 @@ returns c = let a = c .before .before .before .before .before .before .before .b
 pub write-struct-spec : {M : Type 1} → statement M
 write-struct-spec =
     tie.close
-    (tie.spec
-    decorate-struct-members-requires
-    has-runtime-array-requires
-    block-if-requires
-    put-struct-requires
-    same-length
-    returns)
+    (tie.spec (λ c κs. search needs) (λ c κs. search needs) (λ c κs. search needs) put-struct-requires (λ c. search needs) returns)
