@@ -321,6 +321,16 @@ pub fn worst() -> Vec<(&'static str, Vec<u8>)> {
         "255 structs of 6 members alike but for the first bytes of names",
         fill(vec![unnamed(scalar(FLOAT))], 255, six),
     );
+    // Each member is compared before the one that differs, and the last bytes are the same.
+    let seven = |n: usize| {
+        let member =
+            |at: usize| Member { ty: 0, offset: if at == 5 { n as u32 } else { 0 }, name: None };
+        unnamed(Inner::Struct { span: 0, members: (0..7).map(member).collect() })
+    };
+    add(
+        "255 structs of 7 members alike but for the last but one",
+        fill(vec![unnamed(scalar(FLOAT))], 255, seven),
+    );
     let pointer = |n: usize| unnamed(Inner::Pointer { base: n as u16, space: PRIVATE, access: 0 });
     add("255 pointers, each to the one before", fill(vec![unnamed(scalar(FLOAT))], 255, pointer));
     let nested = |n: usize| unnamed(Inner::Array { base: n as u16, size: 2, stride: 4 });

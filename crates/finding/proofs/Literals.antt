@@ -1,4 +1,5 @@
--- A literal's type and its instruction, by its form.
+-- A literal's type and its instruction, by its form: one case a form, and in each the definition computes. The ids stand in the
+-- words modulo 2^32, so the words put are those of the definition's instruction, each taken so.
 use Prim.Native.Nat.{ℕ, zero, suc, _+_, _*_, _≤_, _<_, _%_, _/_}
 use mathlib.Core.Path.{_≡_, refl, sym, ap, _∙_}
 use mathlib.Core.Bool.{Bool, true, false}

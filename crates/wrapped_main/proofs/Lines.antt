@@ -1,4 +1,5 @@
--- The loop over the globals: what is put already, then what is left to put, is the whole.
+-- The loop over the globals: what is put already, then what is left to put, is the whole. A turn moves one line from the second
+-- to the first, and the loop is left where Wrapped refuses the index: there what is left is nothing.
 use Prim.Native.Nat.{ℕ, zero, suc, _+_, _*_, _≤_}
 use mathlib.Core.Path.{_≡_, refl, sym, ap, _∙_, subst}
 use mathlib.Core.Bool.{Bool, true, false}

@@ -1,4 +1,5 @@
--- Searching composites by their parts, and that the search is the definition's lookup.
+-- Searching composites by their parts, and that the search is the definition's lookup: first two lists of numbers part by part,
+-- then one row, whose parts are a window of the table's parts, then all rows by induction.
 use Prim.Native.Nat.{ℕ, zero, suc, _+_, _*_, _-_, _≤_, _<_}
 use mathlib.Core.Path.{_≡_, refl, sym, ap, _∙_}
 use mathlib.Core.Bool.{Bool, true, false, _&&_}

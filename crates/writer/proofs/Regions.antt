@@ -1,4 +1,5 @@
--- The frame law of regions: what is written in one leaves the others, and stands behind what its own region had.
+-- The frame law of regions: what is written in one leaves the others, and stands behind what its own region had. It is shown of
+-- one splice, element by element; rows and words are regions read in two ways.
 use Prim.Native.Nat.{ℕ, zero, suc, _+_, _*_, _-_, _≤_, _<_}
 use mathlib.Core.Path.{_≡_, refl, sym, ap, _∙_}
 use mathlib.Core.List.{List, [], _∷_, _++_, append-assoc, append-nil}

@@ -1,4 +1,5 @@
--- Searching rows, and that a search of a table's rows is the definition's lookup.
+-- Searching rows, and that a search of a table's rows is the definition's lookup: one law for any kind of key that is told apart by
+-- two numbers, and then each table as an instance of it.
 use Prim.Native.Nat.{ℕ, zero, suc, _+_, _*_, _-_, _≤_, _<_}
 use mathlib.Core.Path.{_≡_, refl, sym, ap, _∙_}
 use mathlib.Core.Bool.{Bool, true, false, _&&_}

@@ -1,4 +1,5 @@
--- Entering a row in a table.
+-- Entering a row in a table: the row stands behind those of its table, and every other table and every section is as it was. One
+-- law for all tables of rows; a composite also puts its parts behind those in use.
 use Prim.Native.Nat.{ℕ, zero, suc, _+_, _*_, _-_, _≤_, _<_}
 use mathlib.Core.Path.{_≡_, refl, sym, ap, _∙_}
 use mathlib.Core.List.{List, [], _∷_, _++_, append-assoc, append-nil, map}

@@ -1,4 +1,5 @@
--- Words put behind those of a section, and capabilities listed.
+-- Words put behind those of a section, and capabilities listed. One law for every section: the state's words are those it had and
+-- the instruction's behind them, and tables and other sections stay; each kind of instruction is then an instance.
 use Prim.Native.Nat.{ℕ, zero, suc, _+_, _*_, _-_, _≤_, _<_, _%_}
 use mathlib.Core.Path.{_≡_, refl, sym, ap, _∙_, subst}
 use mathlib.Core.Bool.{Bool, true, false}

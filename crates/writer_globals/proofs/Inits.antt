@@ -1,4 +1,5 @@
--- A global's init and its variable: each way out from what the callees leave.
+-- A global's init and its variable: each way out from what the callees leave. The definition asks for the init, the null and the
+-- words in the same order, so that the cases of the program are its cases.
 use Prim.Native.Nat.{ℕ, _<_}
 use mathlib.Core.Path.{_≡_, refl, sym, ap, _∙_, subst}
 use mathlib.Core.Bool.{Bool, true, false, _&&_, _||_}

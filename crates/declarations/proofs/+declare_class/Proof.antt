@@ -1,4 +1,5 @@
--- The measure falls as the class rises.
+-- The measure falls as the class rises. Each class's own function has the promise, whatever the class, so that a call of it, or of
+-- the next class, hands it on.
 use borrow.Author.Needs.{needs}
 use Prim.Native.Nat.{ℕ, _<_, _-_}
 use borrow.Fn.Kinds.{In}

@@ -10,44 +10,14 @@ use Rattle.locals.proofs.make_local.Tie as tie
 enum-told : tie.Need-enum-told
 enum-told c = search needs
 
-returns : tie.Need-returns
-returns c = λ b n. rw (c .before .t .given .1)
-
-returns-2 : tie.Need-returns-2
-returns-2 c = λ b n. rw (c .before .t2 .given .1)
-
-returns-3 : tie.Need-returns-3
-returns-3 c = λ b n. rw (c .before .t3 .given .1)
-
-returns-4 : tie.Need-returns-4
-returns-4 c = λ b n. rw (c .before .t4 .given .1)
-
 returns-5 : tie.Need-returns-5
 returns-5 c = let e = c .class-byte .ensures in λ b n. rw (c .before .before .t5 .given .1) (cc)
 
 returns-6 : tie.Need-returns-6
 returns-6 c = let e = c .class-byte2 .ensures in let f = c .before .vector-size .ensures in λ b n. rw (c .before .before .before .t6 .given .1) (cc)
 
-returns-7 : tie.Need-returns-7
-returns-7 c = λ b n. rw (c .enum-told .given .1)
-
-returns-8 : tie.Need-returns-8
-returns-8 c = λ b n. rw (c .enum-told2 .given .1)
-
 returns-9 : tie.Need-returns-9
 returns-9 c = λ b n. rw (c .before .before .t7 .given .1) (ap some (c .image-type .ensures))
-
-returns-10 : tie.Need-returns-10
-returns-10 c = λ b n. rw (c .enum-told3 .given .1)
-
-returns-11 : tie.Need-returns-11
-returns-11 c = λ b n. rw (c .enum-told4 .given .1)
-
-returns-12 : tie.Need-returns-12
-returns-12 c = λ b n. rw (c .enum-told5 .given .1)
-
-returns-13 : tie.Need-returns-13
-returns-13 c = λ b n. rw (c .enum-told6 .given .1)
 
 pub make-local-spec : {M : Type 1} → statement M
 make-local-spec =
@@ -55,5 +25,8 @@ make-local-spec =
     (tie.spec (λ c. search needs) (λ c. search needs) (λ c. search needs) (λ c. search needs) (λ c. search needs)
     (λ c κs. search needs) (λ c. search needs) (λ c κs. search needs) (λ c κs. search needs) enum-told (λ c. search needs)
     (λ c. search needs) (λ c κs. search needs) (λ c. search needs) (λ c. search needs) (λ c. search needs) (λ c. search needs)
-    returns returns-2 returns-3 returns-4 returns-5 returns-6 returns-7 returns-8 returns-9 returns-10 returns-11 returns-12
-    returns-13)
+    (λ c. λ b n. rw (c .before .t .given .1)) (λ c. λ b n. rw (c .before .t2 .given .1))
+    (λ c. λ b n. rw (c .before .t3 .given .1)) (λ c. λ b n. rw (c .before .t4 .given .1)) returns-5 returns-6
+    (λ c. λ b n. rw (c .enum-told .given .1)) (λ c. λ b n. rw (c .enum-told2 .given .1)) returns-9
+    (λ c. λ b n. rw (c .enum-told3 .given .1)) (λ c. λ b n. rw (c .enum-told4 .given .1))
+    (λ c. λ b n. rw (c .enum-told5 .given .1)) (λ c. λ b n. rw (c .enum-told6 .given .1)))

@@ -21,29 +21,11 @@ returns c = let g = c .before .before .before .l .given .0 in
     let k = kindOf (kindNumber (g .1 .0)) (g .1 .1 .0) in
     rw (c .before .before .before .l .given .1) (v .0 ∙ ap (λ (k : ℕ). valueKey (g .0) k (g .1 .1 .1 .0)) e ∙ value-packed (g .0) k (g .1 .1 .1 .0), value-small (g .0) k (g .1 .1 .1 .0) (subst (λ (k : ℕ). SmallValue (g .0) k (g .1 .1 .1 .0)) e (v .1)))
 
-returns-2 : tie.Need-returns-2
-returns-2 c = rw (c .before .before .l2 .given .1) (c .bytes-key .ensures)
-
-returns-3 : tie.Need-returns-3
-returns-3 c = rw (c .before .before .l3 .given .1) (c .base-key .ensures)
-
 returns-4 : tie.Need-returns-4
 returns-4 c = rw (c .before .before .before .l4 .given .1, ← c .before .scalar-code2 .ensures .0) (c .bytes-key2 .ensures)
 
-returns-5 : tie.Need-returns-5
-returns-5 c = rw (c .enum-told .given .1) (refl, tt)
-
 returns-6 : tie.Need-returns-6
 returns-6 c = rw (c .before .before .before .before .l5 .given .1, ← c .before .before .space-number .ensures .0, ← c .before .space-access .ensures) (c .base-key2 .ensures)
-
-returns-7 : tie.Need-returns-7
-returns-7 c = rw (c .before .before .l6 .given .1) (c .base-key3 .ensures)
-
-returns-8 : tie.Need-returns-8
-returns-8 c = rw (c .enum-told2 .given .1) (refl, tt)
-
-returns-9 : tie.Need-returns-9
-returns-9 c = rw (c .enum-told3 .given .1) (refl, tt)
 
 pub local-key-spec : {M : Type 1} → statement M
 local-key-spec =
@@ -51,5 +33,8 @@ local-key-spec =
     (tie.spec (λ c. search needs) (λ c κs. search needs) (λ c κs. search needs) (λ c. search needs) (λ c κs. search needs)
     (λ c. search needs) (λ c. search needs) (λ c κs. search needs) (λ c. search needs) (λ c κs. search needs)
     (λ c κs. search needs) enum-told (λ c. search needs) (λ c κs. search needs) (λ c κs. search needs) (λ c κs. search needs)
-    (λ c. search needs) (λ c κs. search needs) (λ c. search needs) (λ c. search needs) returns returns-2 returns-3 returns-4
-    returns-5 returns-6 returns-7 returns-8 returns-9)
+    (λ c. search needs) (λ c κs. search needs) (λ c. search needs) (λ c. search needs) returns
+    (λ c. rw (c .before .before .l2 .given .1) (c .bytes-key .ensures))
+    (λ c. rw (c .before .before .l3 .given .1) (c .base-key .ensures)) returns-4 (λ c. rw (c .enum-told .given .1) (refl, tt))
+    returns-6 (λ c. rw (c .before .before .l6 .given .1) (c .base-key3 .ensures)) (λ c. rw (c .enum-told2 .given .1) (refl, tt))
+    (λ c. rw (c .enum-told3 .given .1) (refl, tt)))

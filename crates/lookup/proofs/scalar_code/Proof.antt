@@ -6,24 +6,11 @@ use Rattle.definition.specs.Shapes.{kindOf}
 use Rattle.lookup.proofs.scalar_code.Statement.{statement}
 use Rattle.lookup.proofs.scalar_code.Tie as tie
 
-returns : tie.Need-returns
-unfolding kindOf
-returns c = (rw (c .enum-told .given .1), omega arith)
-
-returns-2 : tie.Need-returns-2
-unfolding kindOf
-returns-2 c = (rw (c .enum-told2 .given .1), omega arith)
-
-returns-3 : tie.Need-returns-3
-unfolding kindOf
-returns-3 c = (rw (c .enum-told3 .given .1), omega arith)
-
-returns-4 : tie.Need-returns-4
-unfolding kindOf
-returns-4 c = (rw (c .enum-told4 .given .1), omega arith)
-
 pub scalar-code-spec : {M : Type 1} → statement M
+unfolding kindOf
 scalar-code-spec =
     tie.close
     (tie.spec (λ c. search needs) (λ c. search needs) (λ c. search needs) (λ c. search needs) (λ c. search needs)
-    (λ c. search needs) (λ c. search needs) (λ c. search needs) (λ c. search needs) returns returns-2 returns-3 returns-4)
+    (λ c. search needs) (λ c. search needs) (λ c. search needs) (λ c. search needs)
+    (λ c. (rw (c .enum-told .given .1), omega arith)) (λ c. (rw (c .enum-told2 .given .1), omega arith))
+    (λ c. (rw (c .enum-told3 .given .1), omega arith)) (λ c. (rw (c .enum-told4 .given .1), omega arith)))

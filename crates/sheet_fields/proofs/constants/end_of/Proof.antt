@@ -5,28 +5,14 @@ use Rattle.definition.specs.Sheet.{constantFields}
 use Rattle.sheet_fields.proofs.constants.end_of.Statement.{statement}
 use Rattle.sheet_fields.proofs.constants.end_of.Tie as tie
 
-returns : tie.Need-returns
-unfolding constantFields
-returns c = simp (c .before .match .keys1) cc
-
-returns-2 : tie.Need-returns-2
-unfolding constantFields
-returns-2 c = simp (c .match .keys2) cc
-
-returns-3 : tie.Need-returns-3
-unfolding constantFields
-returns-3 c = simp (c .match .keys3) cc
-
-returns-4 : tie.Need-returns-4
-unfolding constantFields
-returns-4 c = simp (c .before .match .keys4) cc
-
 returns-5 : tie.Need-returns-5
 unfolding constantFields
 returns-5 c = simp (ne-eqb _ _ (c .match .rest .0 .0 .0 .1), ne-eqb _ _ (c .match .rest .0 .0 .1), ne-eqb _ _ (c .match .rest .0 .1), ne-eqb _ _ (c .match .rest .1)) cc
 
 pub end-of-spec : {M : Type 1} → statement M
+unfolding constantFields
 end-of-spec =
     tie.close
-    (tie.spec (λ c κs. search needs) (λ c κs. search needs) (λ c. search needs) (λ c. search needs) (λ c. search needs) returns
-    returns-2 returns-3 returns-4 returns-5)
+    (tie.spec (λ c κs. search needs) (λ c κs. search needs) (λ c. search needs) (λ c. search needs) (λ c. search needs)
+    (λ c. simp (c .before .match .keys1) cc) (λ c. simp (c .match .keys2) cc) (λ c. simp (c .match .keys3) cc)
+    (λ c. simp (c .before .match .keys4) cc) returns-5)

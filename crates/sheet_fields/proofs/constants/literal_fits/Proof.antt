@@ -5,26 +5,14 @@ use Rattle.definition.specs.Sheet.{literalFields}
 use Rattle.sheet_fields.proofs.constants.literal_fits.Statement.{statement}
 use Rattle.sheet_fields.proofs.constants.literal_fits.Tie as tie
 
-returns : tie.Need-returns
-unfolding literalFields
-returns c = simp (← c .before .u8-at .ensures, c .match .keys1) cc
-
-returns-2 : tie.Need-returns-2
-unfolding literalFields
-returns-2 c = simp (← c .before .u8-at .ensures, c .match .keys2) cc
-
-returns-3 : tie.Need-returns-3
-unfolding literalFields
-returns-3 c = simp (← c .before .u8-at .ensures, c .match .keys3) cc
-
-returns-4 : tie.Need-returns-4
-unfolding literalFields
-returns-4 c = simp (← c .before .u8-at .ensures, c .match .keys4) cc
-
 returns-5 : tie.Need-returns-5
 unfolding literalFields
 returns-5 c = simp (← c .before .before .u8-at .ensures, ne-eqb _ _ (c .before .match .rest .0 .0 .0 .1), ne-eqb _ _ (c .before .match .rest .0 .0 .1), ne-eqb _ _ (c .before .match .rest .0 .1), ne-eqb _ _ (c .before .match .rest .1)) cc
 
 pub literal-fits-spec : {M : Type 1} → statement M
+unfolding literalFields
 literal-fits-spec =
-    tie.close (tie.spec (λ c κs. search needs) (λ c κs. search needs) returns returns-2 returns-3 returns-4 returns-5)
+    tie.close
+    (tie.spec (λ c κs. search needs) (λ c κs. search needs) (λ c. simp (← c .before .u8-at .ensures, c .match .keys1) cc)
+    (λ c. simp (← c .before .u8-at .ensures, c .match .keys2) cc) (λ c. simp (← c .before .u8-at .ensures, c .match .keys3) cc)
+    (λ c. simp (← c .before .u8-at .ensures, c .match .keys4) cc) returns-5)

@@ -7,28 +7,15 @@ use mathlib.Core.Bool.{and-true}
 use Rattle.sheet_fields.proofs.constants.read_already.Statement.{statement}
 use Rattle.sheet_fields.proofs.constants.read_already.Tie as tie
 
-returns : tie.Need-returns
-unfolding constantFields
-returns c = simp (c .match .keys1) cc
-
-returns-2 : tie.Need-returns-2
-unfolding constantFields
-returns-2 c = simp (c .before .match .keys2) cc
-
-returns-3 : tie.Need-returns-3
-unfolding constantFields
-returns-3 c = simp (c .before .match .keys3) (c .one-below2 .ensures ∙ sym (and-true _))
-
-returns-4 : tie.Need-returns-4
-unfolding constantFields
-returns-4 c = simp (c .before .match .keys4) cc
-
 returns-5 : tie.Need-returns-5
 unfolding constantFields
 returns-5 c = simp (ne-eqb _ _ (c .before .match .rest .0 .0 .0 .1), ne-eqb _ _ (c .before .match .rest .0 .0 .1), ne-eqb _ _ (c .before .match .rest .0 .1), ne-eqb _ _ (c .before .match .rest .1)) cc
 
 pub read-already-spec : {M : Type 1} → statement M
+unfolding constantFields
 read-already-spec =
     tie.close
-    (tie.spec (λ c κs. search needs) (λ c κs. search needs) (λ c κs. search needs) (λ c κs. search needs) returns returns-2
-    returns-3 returns-4 returns-5)
+    (tie.spec (λ c κs. search needs) (λ c κs. search needs) (λ c κs. search needs) (λ c κs. search needs)
+    (λ c. simp (c .match .keys1) cc) (λ c. simp (c .before .match .keys2) cc)
+    (λ c. simp (c .before .match .keys3) (c .one-below2 .ensures ∙ sym (and-true _))) (λ c. simp (c .before .match .keys4) cc)
+    returns-5)

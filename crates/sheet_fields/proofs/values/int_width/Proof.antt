@@ -3,20 +3,10 @@ use borrow.Author.Tests.{ne-eqb}
 use Rattle.sheet_fields.proofs.values.int_width.Statement.{statement}
 use Rattle.sheet_fields.proofs.values.int_width.Tie as tie
 
-returns : tie.Need-returns
-returns c = simp (c .match .keys1) cc
-
-returns-2 : tie.Need-returns-2
-returns-2 c = simp (c .match .keys2) cc
-
-returns-3 : tie.Need-returns-3
-returns-3 c = simp (c .match .keys3) cc
-
-returns-4 : tie.Need-returns-4
-returns-4 c = simp (c .match .keys4) cc
-
 returns-5 : tie.Need-returns-5
 returns-5 c = simp (ne-eqb _ _ (c .match .rest .0 .0 .0 .1), ne-eqb _ _ (c .match .rest .0 .0 .1), ne-eqb _ _ (c .match .rest .0 .1), ne-eqb _ _ (c .match .rest .1)) cc
 
 pub int-width-spec : {M : Type 1} → statement M
-int-width-spec = tie.close (tie.spec returns returns-2 returns-3 returns-4 returns-5)
+int-width-spec = tie.close
+    (tie.spec (λ c. simp (c .match .keys1) cc) (λ c. simp (c .match .keys2) cc) (λ c. simp (c .match .keys3) cc)
+    (λ c. simp (c .match .keys4) cc) returns-5)

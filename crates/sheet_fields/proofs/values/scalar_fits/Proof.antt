@@ -6,27 +6,13 @@ use Rattle.definition.specs.Tests.{scalarFits}
 use Rattle.sheet_fields.proofs.values.scalar_fits.Statement.{statement}
 use Rattle.sheet_fields.proofs.values.scalar_fits.Tie as tie
 
-returns : tie.Need-returns
-unfolding scalarFits
-returns c = simp (c .before .match .keys1) cc
-
-returns-2 : tie.Need-returns-2
-unfolding scalarFits
-returns-2 c = simp (c .before .match .keys2) cc
-
-returns-3 : tie.Need-returns-3
-unfolding scalarFits
-returns-3 c = simp (c .before .match .keys3) cc
-
-returns-4 : tie.Need-returns-4
-unfolding scalarFits
-returns-4 c = simp (c .match .keys4) cc
-
 returns-5 : tie.Need-returns-5
 unfolding scalarFits
 returns-5 c = let k = c .before .args .kind in simp (lt-leb k 1 (omega (arith, c .match .rest .0 .0 .0 .1, c .match .rest .0 .0 .1)), ne-eqb _ _ (c .match .rest .0 .1), ne-eqb _ _ (c .match .rest .1))
 
 pub scalar-fits-spec : {M : Type 1} → statement M
+unfolding scalarFits
 scalar-fits-spec =
     tie.close
-    (tie.spec (λ c κs. search needs) (λ c κs. search needs) (λ c κs. search needs) returns returns-2 returns-3 returns-4 returns-5)
+    (tie.spec (λ c κs. search needs) (λ c κs. search needs) (λ c κs. search needs) (λ c. simp (c .before .match .keys1) cc)
+    (λ c. simp (c .before .match .keys2) cc) (λ c. simp (c .before .match .keys3) cc) (λ c. simp (c .match .keys4) cc) returns-5)

@@ -7,63 +7,30 @@ use Rattle.definition.specs.Sheet.{typeFields}
 use Rattle.type_facts.proofs.facets.facet_of.Statement.{statement}
 use Rattle.type_facts.proofs.facets.facet_of.Tie as tie
 
-returns : tie.Need-returns
-unfolding typeFields
-returns c = simp (c .match .keys1)
-
-returns-2 : tie.Need-returns-2
-unfolding typeFields
-returns-2 c = simp (c .match .keys2)
-
 returns-3 : tie.Need-returns-3
 unfolding typeFields
 returns-3 c = simp (c .before .before .before .match .keys3, c .matrix-stride .ensures, c .before .before .u8-at .ensures, c .before .u8-at2 .ensures, c .before .before .before .before .name-end .ensures .0)
-
-returns-4 : tie.Need-returns-4
-unfolding typeFields
-returns-4 c = simp (c .match .keys4)
-
-returns-5 : tie.Need-returns-5
-unfolding typeFields
-returns-5 c = simp (c .match .keys5)
-
-returns-6 : tie.Need-returns-6
-unfolding typeFields
-returns-6 c = simp (c .match .keys6)
 
 returns-7 : tie.Need-returns-7
 unfolding typeFields
 returns-7 c = simp (c .before .before .match .keys7, c .before .u16-at .ensures, c .u32-at .ensures, c .before .before .before .name-end .ensures .0)
 
-returns-8 : tie.Need-returns-8
-unfolding typeFields
-returns-8 c = simp (c .match .keys8)
-
 returns-9 : tie.Need-returns-9
 unfolding typeFields
 returns-9 c = simp (c .before .before .before .match .keys9, c .image-facet .ensures, c .before .before .u8-at3 .ensures, c .before .u8-at4 .ensures, c .before .before .before .before .name-end .ensures .0)
-
-returns-10 : tie.Need-returns-10
-unfolding typeFields
-returns-10 c = simp (c .match .keys10)
-
-returns-11 : tie.Need-returns-11
-unfolding typeFields
-returns-11 c = simp (c .match .keys11)
-
-returns-12 : tie.Need-returns-12
-unfolding typeFields
-returns-12 c = simp (c .match .keys12)
 
 returns-13 : tie.Need-returns-13
 unfolding typeFields
 returns-13 c = let r = c .before .match .rest in simp (ne-eqb _ _ (r .0 .0 .0 .0 .0 .0 .0 .0 .0 .0 .0 .1), ne-eqb _ _ (r .0 .0 .0 .0 .0 .0 .0 .0 .0 .0 .1), ne-eqb _ _ (r .0 .0 .0 .0 .0 .0 .0 .0 .0 .1), ne-eqb _ _ (r .0 .0 .0 .0 .0 .0 .0 .0 .1), ne-eqb _ _ (r .0 .0 .0 .0 .0 .0 .0 .1), ne-eqb _ _ (r .0 .0 .0 .0 .0 .0 .1), ne-eqb _ _ (r .0 .0 .0 .0 .0 .1), ne-eqb _ _ (r .0 .0 .0 .0 .1), ne-eqb _ _ (r .0 .0 .0 .1), ne-eqb _ _ (r .0 .0 .1), ne-eqb _ _ (r .0 .1), ne-eqb _ _ (r .1), c .u16-at2 .ensures, c .before .before .name-end .ensures .0)
 
 pub facet-of-spec : {M : Type 1} → statement M
+unfolding typeFields
 facet-of-spec =
     tie.close
     (tie.spec (λ c κs. search needs) (λ c. search needs) (λ c κs. search needs) (λ c. search needs) (λ c. search needs)
     (λ c κs. search needs) (λ c. search needs) (λ c κs. search needs) (λ c κs. search needs) (λ c. search needs)
     (λ c κs. search needs) (λ c. search needs) (λ c κs. search needs) (λ c. search needs) (λ c κs. search needs)
-    (λ c κs. search needs) (λ c κs. search needs) returns returns-2 returns-3 returns-4 returns-5 returns-6 returns-7 returns-8
-    returns-9 returns-10 returns-11 returns-12 returns-13)
+    (λ c κs. search needs) (λ c κs. search needs) (λ c. simp (c .match .keys1)) (λ c. simp (c .match .keys2)) returns-3
+    (λ c. simp (c .match .keys4)) (λ c. simp (c .match .keys5)) (λ c. simp (c .match .keys6)) returns-7
+    (λ c. simp (c .match .keys8)) returns-9 (λ c. simp (c .match .keys10)) (λ c. simp (c .match .keys11))
+    (λ c. simp (c .match .keys12)) returns-13)
