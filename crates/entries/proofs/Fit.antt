@@ -1,15 +1,12 @@
 -- What a passed test 10 tells of each field, so that the case that was taken has the field's number.
-use Prim.Native.Nat.{ℕ, zero, suc, _+_, _*_, _<_}
-use mathlib.Core.Path.{_≡_, ap, sym}
+use Prim.Native.Nat.{ℕ}
+use mathlib.Core.Path.{_≡_, sym}
 use mathlib.Core.Bool.{true}
 use mathlib.Core.List.{List}
 use native.Mathlib.Omega.{arith}
-use native.Mathlib.Nat.{not-suc-le-zero}
 use borrow.Author.Tests.{leb-true, eqb-true}
 use lib.Dec.{eqb, leb}
-use lib.ListN.{getD}
-use Rattle.definition.specs.Bytes.{u16At}
-use Rattle.definition.specs.Sheet.{Global, u16sAt}
+use Rattle.definition.specs.Sheet.{Global}
 use Rattle.definition.specs.Tests.{bindingFits}
 use Rattle.definition.proofs.Truth.{both}
 use Rattle.entries.specs.Types.{Taken}
@@ -32,13 +29,3 @@ module _ (g : Global) (h : bindingFits g ≡ true) where
 
 pub taken : (t k : ℕ) (b : List ℕ) (n m : ℕ) (i : TypeInner) → t ≡ k → n ≡ m → Taken k b n i → Taken t b m i
 taken t k b n m i e q h = rw (e, ← q) h
-
--- ---- a part of a Compose
-
-pub part : (b : List ℕ) (n p i : ℕ) → i < n → u16At b (p + 2 * i) ≡ getD (u16sAt b p n) i 0
-unfolding u16sAt
-part b zero p i h = absurd (not-suc-le-zero h)
-part b (suc n) p zero h = ap (u16At b) (omega arith)
-part b (suc n) p (suc i) h =
-    let q : p + 2 * suc i ≡ p + 2 + 2 * i = omega arith in
-    rw q (part b n (p + 2) i (omega arith))

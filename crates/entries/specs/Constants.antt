@@ -6,7 +6,6 @@ use mathlib.Core.List.{List}
 use Rattle.definition.specs.Sheet.{u16sAt, constantFields}
 use Rattle.definition.specs.Tests.{expressionFits}
 use Rattle.literals.specs.Forms.{literalOf}
-use Rattle.records.specs.Places.{recordFrom}
 use Rattle.entries.specs.declared.constants.Expression.{Expression}
 use Rattle.entries.specs.declared.constants.Expression.the-variants.{Literal, Constant, ZeroValue, Compose, Splat}
 use Rattle.definition.specs.Sheet as Defined
@@ -21,7 +20,3 @@ expressionOf b (Splat n c) = Defined.Splat n c
 -- what was taken for the constant of tag t is that constant, if its fields pass test 10
 abbrev pub Taken : ℕ → List ℕ → Expression → Type 0
 Taken t b e = expressionFits (constantFields t b .value) ≡ true → expressionOf b e ≡ constantFields t b .value
-
--- the same of the constant whose record stands at a place of the sheet
-abbrev pub TakenFrom : List ℕ → ℕ → Expression → Type 0
-TakenFrom s at e = Taken (recordFrom s at .tag) (recordFrom s at .body) e

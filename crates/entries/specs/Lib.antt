@@ -1,4 +1,3 @@
 pub mod Types
 pub mod Constants
 pub mod Globals
-pub mod Members

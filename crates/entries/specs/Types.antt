@@ -5,8 +5,6 @@ use mathlib.Core.Bool.{true}
 use mathlib.Core.List.{List}
 use Rattle.definition.specs.Sheet.{membersAt, typeFields}
 use Rattle.definition.specs.Tests.{innerFits}
-use Rattle.definition.specs.Bytes.{nameEnd}
-use Rattle.records.specs.Places.{recordFrom}
 use Rattle.entries.specs.declared.types.TypeInner.{TypeInner}
 use Rattle.entries.specs.declared.types.TypeInner.the-variants.{Scalar, Vector, Matrix, Atomic, Pointer, ValuePointer, Array, Struct, Image, Sampler, AccelerationStructure, RayQuery, BindingArray}
 use Rattle.kinds.specs.Numbers.{flagNumber, kindNumber, spaceNumber, spaceAccess, dimensionNumber, classNumber, classFirst, classSecond}
@@ -31,7 +29,3 @@ innerOf b n (BindingArray t z) = Defined.BindingArray t z
 -- what was taken for the type of tag t is that type, if its fields pass test 10
 abbrev pub Taken : ℕ → List ℕ → ℕ → TypeInner → Type 0
 Taken t b n i = innerFits (typeFields t b n .value) ≡ true → innerOf b n i ≡ typeFields t b n .value
-
--- the same of the type whose record stands at a place of the sheet
-abbrev pub TakenFrom : List ℕ → ℕ → TypeInner → Type 0
-TakenFrom s at i = Taken (recordFrom s at .tag) (recordFrom s at .body) (nameEnd (recordFrom s at .body) 0) i

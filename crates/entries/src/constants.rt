@@ -2,12 +2,10 @@
 use literals::Literal;
 ghost use mathlib.Core.Path.{_≡_};
 ghost use mathlib.Core.Bool.{true};
-ghost use Prim.Native.Nat.{_<_};
-ghost use lib.ListN.{length, getD};
 ghost use Rattle.definition.specs.Sheet.{literalFields};
 ghost use Rattle.definition.specs.Tests.{literalFits};
 ghost use Rattle.literals.specs.Forms.{literalOf};
-ghost use Rattle.entries.specs.Constants.{Taken, TakenFrom};
+ghost use Rattle.entries.specs.Constants.{Taken};
 
 // A Constant is document 01's Alias. Types and constants by their indexes.
 pub enum Expression {
@@ -28,15 +26,6 @@ fn literal_of(b: &[u8]) -> Literal
         3 => literals::i32_of_bits(fields::u32_at(b, 1)),
         _ => Literal::Bool(fields::u8_at(b, 1) == 1),
     }
-}
-
-// Constant i.
-pub fn constant_at(s: &[u8], constants: &[u32], i: usize) -> Expression
-    requires { ⌜ i < length (now constants) ⌝ }
-    ensures { λ r. ⌜ TakenFrom (now (s .entry)) (getD (now (constants .entry)) i 0) r ⌝ }
-{
-    let rest = crate::entry_at(s, constants, i);
-    expression_of(records::tag_of(rest), records::body_of(rest))
 }
 
 // The constant of tag t and body b.

@@ -8,9 +8,8 @@ use kinds::dimension_of;
 use kinds::kind_of;
 use kinds::space_of;
 ghost use Prim.Native.Nat.{_<_};
-ghost use lib.ListN.{length, getD};
 ghost use Rattle.definition.specs.Bytes.{nameEnd};
-ghost use Rattle.entries.specs.Types.{Taken, TakenFrom};
+ghost use Rattle.entries.specs.Types.{Taken};
 
 // Widths in bytes; a base is an index within the types; a size of 0 is dynamic or, of a value pointer, none.
 pub enum TypeInner {
@@ -65,15 +64,6 @@ pub enum TypeInner {
         base: u16,
         size: u32,
     },
-}
-
-// The fields of type i.
-pub fn type_at(s: &[u8], types: &[u32], i: usize) -> TypeInner
-    requires { ⌜ i < length (now types) ⌝ }
-    ensures { λ r. ⌜ TakenFrom (now (s .entry)) (getD (now (types .entry)) i 0) r ⌝ }
-{
-    let rest = crate::entry_at(s, types, i);
-    inner_of(records::tag_of(rest), records::body_of(rest))
 }
 
 // The fields of a type of tag t and body b.

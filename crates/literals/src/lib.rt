@@ -1,12 +1,11 @@
-// Literals that keep every bit, and are equal by form and bits.
+// Literals that keep every bit, and are told apart by form and bits.
 ghost use mathlib.Core.Path.{_≡_};
-ghost use mathlib.Core.Bool.{decide};
-ghost use Prim.Native.Nat.{_/_, _%_, _<_};
+ghost use Prim.Native.Nat.{_/_, _%_};
 ghost use lib.Ieee.{toBits, binary32, binary64};
-ghost use lib.ListN.{length, getD};
+ghost use lib.ListN.{getD};
 ghost use mir.Syntax.{w32};
 ghost use mir.Val.{ofZ, toZ};
-ghost use Rattle.definition.specs.Literals.{f64, f32, u32 as unsigned, i32 as signed, boolean, sameLiteral, literalWords};
+ghost use Rattle.definition.specs.Literals.{f64, f32, u32 as unsigned, i32 as signed, literalWords};
 ghost use Rattle.literals.specs.Forms.{literalOf, formOf, bitsOf};
 
 // A float's bits are not always there to be had: from_bits and to_bits are undefined at a NaN, of which the logic knows
@@ -52,13 +51,6 @@ pub fn i32_of_bits(n: u32) -> Literal
     ensures { λ r. ⌜ literalOf r ≡ signed n ⌝ }
 {
     Literal::I32(signed_of(n))
-}
-
-pub fn bool_of_bits(n: u8) -> Literal
-    requires { ⌜ n < 2 ⌝ }
-    ensures { λ r. ⌜ literalOf r ≡ boolean n ⌝ }
-{
-    Literal::Bool(n == 1)
 }
 
 // The number whose two's complement is n.
@@ -111,7 +103,8 @@ pub fn form(l: Literal) -> u8
     }
 }
 
-// The bits of a literal, whatever its form.
+// The bits of a literal, whatever its form. Floats are not compared as numbers but by these, so +0 and -0 differ, and a NaN
+// is equal to itself.
 pub fn bits(l: Literal) -> u64
     ensures { λ r. ⌜ r ≡ bitsOf (literalOf l) ⌝ }
 {
@@ -123,32 +116,6 @@ pub fn bits(l: Literal) -> u64
         Literal::U32(n) => n as u64,
         Literal::I32(x) => two_complement(x) as u64,
         Literal::Bool(b) => b as u64,
-    }
-}
-
-// Whether two literals have one form and the same bits: floats are not compared as numbers, so +0 and -0 differ, and a
-// NaN is equal to itself.
-pub fn same_literal(a: Literal, b: Literal) -> bool
-    ensures { λ r. ⌜ r ≡ decide (sameLiteral (literalOf a) (literalOf b)) ⌝ }
-{
-    if form(a) != form(b) {
-        return false;
-    }
-    bits(a) == bits(b)
-}
-
-// How many words a literal's value takes; none for a Bool, whose opcode says it.
-pub fn word_count(l: Literal) -> usize
-    ensures { λ r. ⌜ r ≡ length (literalWords (literalOf l)) ⌝ }
-{
-    match l {
-        Literal::F64(_) => 2,
-        Literal::F32(_) => 1,
-        Literal::Nan64(_) => 2,
-        Literal::Nan32(_) => 1,
-        Literal::U32(_) => 1,
-        Literal::I32(_) => 1,
-        Literal::Bool(_) => 0,
     }
 }
 

@@ -2,14 +2,13 @@
 -- the two joined are the instruction's words.
 use Prim.Native.Nat.{ℕ, suc, _+_, _*_, _≤_, _<_}
 use mathlib.Core.Path.{_≡_, refl, ap, subst}
-use mathlib.Core.List.{List, [], _∷_, _++_}
-use native.Mathlib.Nat.{not-suc-le-zero, le-of-suc-le-suc}
+use mathlib.Core.List.{List, [], _∷_}
+use native.Mathlib.Nat.{not-suc-le-zero}
 use native.Mathlib.Omega.{arith}
 use lib.ListN.{length, getD, drop}
-use Rattle.definition.specs.Instructions.{words, plain, typeOp, valueOp, typeStruct, constantComposite}
-use Rattle.definition.specs.Numbers.{OpTypeStruct, OpConstantComposite}
+use Rattle.definition.specs.Instructions.{words, plain, typeOp}
 use Rattle.spirv.specs.Put.{Put}
-use Rattle.spirv.specs.Heads.{head, structHead, compositeHead}
+use Rattle.spirv.specs.Heads.{head}
 use Rattle.spirv.proofs.Puts.{nothing}
 
 -- the word count counts the first word and all operands
@@ -22,12 +21,6 @@ unfolding words
 type-words op [] h = absurd (not-suc-le-zero h)
 type-words op (x ∷ xs) h = refl
 
-value-words : (op : ℕ) (xs : List ℕ) → 2 ≤ length xs → words (plain op xs) ≡ words (valueOp op (getD xs 0 0) (getD xs 1 0) (drop 2 xs))
-unfolding words
-value-words op [] h = absurd (not-suc-le-zero h)
-value-words op (x ∷ []) h = absurd (not-suc-le-zero (le-of-suc-le-suc h))
-value-words op (x ∷ (y ∷ xs)) h = refl
-
 -- what was put, by another name
 module _ {before after : List ℕ} {k : ℕ} (op : ℕ) (xs : List ℕ) where
   pub as-plain : (n : ℕ) → n ≡ length xs + 1 → Put (head n op xs) before after k → Put (words (plain op xs)) before after k
@@ -36,19 +29,6 @@ module _ {before after : List ℕ} {k : ℕ} (op : ℕ) (xs : List ℕ) where
   pub as-type : 1 ≤ length xs → Put (words (plain op xs)) before after k → Put (words (typeOp op (getD xs 0 0) (drop 1 xs))) before after k
   as-type h p = subst (λ (ws : List ℕ). Put ws before after k) (type-words op xs h) p
 
-  pub as-value : 2 ≤ length xs → Put (words (plain op xs)) before after k → Put (words (valueOp op (getD xs 0 0) (getD xs 1 0) (drop 2 xs))) before after k
-  as-value h p = subst (λ (ws : List ℕ). Put ws before after k) (value-words op xs h) p
-
 -- nothing was put
 pub no-room : (op n : ℕ) (xs before : List ℕ) → n ≡ length xs + 1 → length before < n → Put (words (plain op xs)) before before 0
 no-room op n xs before e h = as-plain op xs n e (nothing (head n op xs) before (omega arith))
-
--- with the members' ids behind it, the head of a struct type is its instruction
-pub struct-words : (id : ℕ) (ids : List ℕ) → structHead id (length ids) ++ ids ≡ words (typeStruct id ids)
-unfolding words
-struct-words id ids = let c : length ids + 2 ≡ suc (suc (length ids)) = omega arith in ap (λ (k : ℕ). (65536 * k + OpTypeStruct) ∷ (id ∷ ids)) c
-
--- and so of a composite constant
-pub composite-words : (ty id : ℕ) (ids : List ℕ) → compositeHead ty id (length ids) ++ ids ≡ words (constantComposite ty id ids)
-unfolding words
-composite-words ty id ids = let c : length ids + 3 ≡ suc (suc (suc (length ids))) = omega arith in ap (λ (k : ℕ). (65536 * k + OpConstantComposite) ∷ (ty ∷ (id ∷ ids))) c

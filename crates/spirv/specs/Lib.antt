@@ -2,5 +2,4 @@ pub mod Put
 pub mod Bytes
 pub mod Heads
 pub mod Sections
-pub mod Initializer
 pub mod Ids

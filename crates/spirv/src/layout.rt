@@ -3,10 +3,10 @@ ghost use mathlib.Core.Path.{_≡_};
 ghost use mathlib.Core.List.{_++_};
 ghost use Prim.Native.Nat.{_+_, _≤_, _<_};
 ghost use lib.ListN.{length, getD, drop};
-ghost use Rattle.definition.specs.Instructions.{words, packed, plain, typeOp, valueOp, header};
+ghost use Rattle.definition.specs.Instructions.{words, packed, plain, typeOp, header};
 ghost use Rattle.spirv.specs.Put.{Put, FitsWordCount};
 ghost use Rattle.spirv.specs.Heads.{head};
-ghost use Rattle.spirv.specs.Sections.{Spliced, Room, sections};
+ghost use Rattle.spirv.specs.Sections.{Spliced};
 use crate::helpers::string_to_words;
 use crate::words::put_words;
 
@@ -47,29 +47,6 @@ pub fn put_type(sink: &mut [u32], op: u32, operands: &[u32]) -> usize
     put_plain(sink, op, operands)
 }
 
-// An instruction whose first operands are a type's id and the id that it gives to a value.
-pub fn put_value(sink: &mut [u32], op: u32, operands: &[u32]) -> usize
-    requires { ⌜ (op < 65536) × FitsWordCount (now operands) × (2 ≤ length (now operands)) ⌝ }
-    ensures { λ r. ⌜ Put (words (valueOp op (getD (now (operands .entry)) 0 0) (getD (now (operands .entry)) 1 0) (drop 2 (now (operands .entry))))) (now (sink .entry)) (now (sink .exit)) r ⌝ }
-{
-    put_plain(sink, op, operands)
-}
-
-// An instruction with a list of any length behind its first operands.
-pub fn put_list(sink: &mut [u32], op: u32, operands: &[u32], rest: &[u32]) -> usize
-    requires { ⌜ (op < 65536) × (length (now operands) < 4) × FitsWordCount (now rest) ⌝ }
-    ensures { λ r. ⌜ Put (words (plain op (now (operands .entry) ++ now (rest .entry)))) (now (sink .entry)) (now (sink .exit)) r ⌝ }
-{
-    let at = operands.len() + 1;
-    let n = at + rest.len();
-    if sink.len() < n {
-        return 0;
-    }
-    put_head(sink, n, op, operands);
-    put_words(&mut sink[at..], rest);
-    n
-}
-
 // An instruction with a string behind its first operands.
 pub fn put_name(sink: &mut [u32], op: u32, operands: &[u32], bytes: &[u8]) -> usize
     requires { ⌜ (op < 65536) × (length (now operands) < 4) × FitsWordCount (now bytes) ⌝ }
@@ -105,35 +82,4 @@ pub fn section(out: &mut [u32], at: usize, src: &[u32], n: usize) -> usize
 {
     put_words(&mut out[at..], &src[..n]);
     at + n
-}
-
-// How many words of each section are in use.
-pub struct LogicalLayout {
-    pub capabilities: usize,
-    pub debugs: usize,
-    pub annotations: usize,
-    pub declarations: usize,
-}
-
-impl LogicalLayout {
-    pub fn in_words(
-        self,
-        sink: &mut [u32],
-        capabilities: &[u32],
-        debugs: &[u32],
-        annotations: &[u32],
-        declarations: &[u32],
-    ) -> usize
-        requires { ⌜ Room self (now capabilities) (now debugs) (now annotations) (now declarations) (now sink) ⌝ }
-        ensures { λ r. ⌜ Put (sections self (now (capabilities .entry)) (now (debugs .entry)) (now (annotations .entry)) (now (declarations .entry))) (now (sink .entry)) (now (sink .exit)) r ⌝ }
-    {
-        let c = self.capabilities;
-        let d = self.debugs;
-        let a = self.annotations;
-        let e = self.declarations;
-        let first = section(sink, 0, capabilities, c);
-        let second = section(sink, first, debugs, d);
-        let third = section(sink, second, annotations, a);
-        section(sink, third, declarations, e)
-    }
 }

@@ -1,5 +1,6 @@
--- `put_name` meets its contract, as `put_list` does. What stands behind the head are the packed words, a quarter of the bytes and
--- one more by `packed-length`.
+-- `put_name` meets its contract. The head with its first operands is put, and the packed words into the part behind it: `behind`
+-- joins the two. The packed words are a quarter of the bytes and one more by `packed-length`, so the word count is that of both,
+-- and `as-plain` makes it the instruction.
 use Prim.Native.Nat.{ℕ, _+_, _/_}
 use mathlib.Core.List.{_++_}
 use native.Mathlib.Omega.{arith}
