@@ -1,6 +1,7 @@
 // Document 01's three operations, each with its promise (specs/Promise.antt). None asks anything of its caller: sheets and
 // buffers of any length, indexes of any size.
 use module_layout::Answer;
+use module_layout::BOUND_MOST;
 use sheet_writer::Outcome;
 ghost use mathlib.Core.Path.{_≡_};
 ghost use Prim.Native.Nat.{_≤_};
@@ -20,9 +21,6 @@ const SMALL_RECORDS: usize = 576;
 const LARGE: usize = 16384;
 
 const LARGE_RECORDS: usize = 576;
-
-// The last bound that the Specification allows.
-const BOUND_MOST: u64 = 4194303;
 
 // What Check answers.
 pub enum Verdict {

@@ -8,6 +8,11 @@ use lookup::LocalType;
 use lookup::LookupType;
 use lookup::PointerClass;
 use lookup::VectorSize;
+use spirv::instructions::OP_CONSTANT;
+use spirv::instructions::OP_CONSTANT_FALSE;
+use spirv::instructions::OP_CONSTANT_NULL;
+use spirv::instructions::OP_CONSTANT_TRUE;
+use writer::DECLARATIONS;
 use writer::Sought;
 use writer::Taken;
 use writer::Writer;
@@ -29,16 +34,6 @@ ghost use Rattle.writer.specs.Held.{Held, RoomIn, RoomFor, Room};
 ghost use Rattle.writer.specs.Steps.{GotBy, Kept, Puts};
 ghost use Rattle.finding.specs.Costs.{own, within, costOf, literalCost, nullCost};
 ghost use Rattle.finding.specs.Found.{shapeDeclared, ShapePut};
-
-const OP_CONSTANT_TRUE: u32 = 41;
-
-const OP_CONSTANT_FALSE: u32 = 42;
-
-const OP_CONSTANT: u32 = 43;
-
-const OP_CONSTANT_NULL: u32 = 46;
-
-const DECLARATIONS: usize = 4;
 
 // ---- types
 

@@ -29,7 +29,7 @@ const HEADER_WORDS: usize = 5;
 const CAPABILITY_WORDS: usize = 2;
 
 // The Specification's limit of a bound.
-const BOUND_MOST: u64 = 4194303;
+pub const BOUND_MOST: u64 = 4194303;
 
 fn put_capability(out: &mut [u32], at: usize, c: u32) -> usize
     requires { ⌜ at + 2 ≤ length (now out) ⌝ }

@@ -1,6 +1,6 @@
 // Names, capabilities, the types that are shapes, and the beginning of a composite constant, each put into what is left of a
-// lent buffer; and the opcodes of document 01's rules. The other instructions are put by their opcode (`layout::put_plain`).
-// A writer's answer is how many words it put: 0 where they do not fit, and then nothing was written.
+// lent buffer. Any other instruction is put by its opcode (`layout::put_plain`); the opcodes and decorations of document 01's
+// rules stand here. A writer's answer is how many words it put: 0 where they do not fit, and then nothing was written.
 //
 // Where an instruction takes a name or has parts, a bound on how many is required, with which the word count fits the high half
 // of the first word. Past it no `u32` is the right first word, so refusing there would be one more case in every contract; a
@@ -34,33 +34,51 @@ const OP_TYPE_IMAGE: u32 = 25;
 
 const OP_TYPE_SAMPLER: u32 = 26;
 
-const OP_TYPE_ARRAY: u32 = 28;
+pub const OP_TYPE_ARRAY: u32 = 28;
 
-const OP_TYPE_RUNTIME_ARRAY: u32 = 29;
+pub const OP_TYPE_RUNTIME_ARRAY: u32 = 29;
 
-const OP_TYPE_STRUCT: u32 = 30;
+pub const OP_TYPE_STRUCT: u32 = 30;
 
-const OP_TYPE_POINTER: u32 = 32;
+pub const OP_TYPE_POINTER: u32 = 32;
 
-const OP_CONSTANT_TRUE: u32 = 41;
+pub const OP_CONSTANT_TRUE: u32 = 41;
 
-const OP_CONSTANT_FALSE: u32 = 42;
+pub const OP_CONSTANT_FALSE: u32 = 42;
 
-const OP_CONSTANT: u32 = 43;
+pub const OP_CONSTANT: u32 = 43;
 
 const OP_CONSTANT_COMPOSITE: u32 = 44;
 
-const OP_CONSTANT_NULL: u32 = 46;
+pub const OP_CONSTANT_NULL: u32 = 46;
 
-const OP_VARIABLE: u32 = 59;
+pub const OP_VARIABLE: u32 = 59;
 
-const OP_DECORATE: u32 = 71;
+pub const OP_DECORATE: u32 = 71;
 
-const OP_MEMBER_DECORATE: u32 = 72;
+pub const OP_MEMBER_DECORATE: u32 = 72;
 
 const OP_TYPE_RAY_QUERY_KHR: u32 = 4472;
 
 const OP_TYPE_ACCELERATION_STRUCTURE_KHR: u32 = 5341;
+
+pub const DECORATION_BLOCK: u32 = 2;
+
+pub const DECORATION_COL_MAJOR: u32 = 5;
+
+pub const DECORATION_ARRAY_STRIDE: u32 = 6;
+
+pub const DECORATION_MATRIX_STRIDE: u32 = 7;
+
+pub const DECORATION_NON_WRITABLE: u32 = 24;
+
+pub const DECORATION_NON_READABLE: u32 = 25;
+
+pub const DECORATION_BINDING: u32 = 33;
+
+pub const DECORATION_DESCRIPTOR_SET: u32 = 34;
+
+pub const DECORATION_OFFSET: u32 = 35;
 
 // ---- debug
 

@@ -1,10 +1,4 @@
 // What a global's id is decorated with, its name, and Block on the base of a Storage binding array.
-use crate::BINDING;
-use crate::BLOCK;
-use crate::DESCRIPTOR_SET;
-use crate::NON_READABLE;
-use crate::NON_WRITABLE;
-use crate::OP_DECORATE;
 use crate::STORAGE;
 use entries::globals::Binding;
 use entries::globals::GlobalVariable;
@@ -12,6 +6,12 @@ use kinds::AddressSpace;
 use kinds::space_access;
 use kinds::space_number;
 use lookup::LookupType;
+use spirv::instructions::DECORATION_BINDING;
+use spirv::instructions::DECORATION_BLOCK;
+use spirv::instructions::DECORATION_DESCRIPTOR_SET;
+use spirv::instructions::DECORATION_NON_READABLE;
+use spirv::instructions::DECORATION_NON_WRITABLE;
+use spirv::instructions::OP_DECORATE;
 use type_facts::Access;
 use type_facts::Base;
 use writer::Writer;
@@ -65,8 +65,8 @@ pub fn decorate_access(sections: &mut [u32], w: Writer, id: u64, a: Access) -> W
     match a {
         Access::Nothing => w,
         Access::Of(x) => {
-            let v = decorate_if(sections, w, x % 2 == 0, id, NON_READABLE);
-            decorate_if(sections, v, x / 2 % 2 == 0, id, NON_WRITABLE)
+            let v = decorate_if(sections, w, x % 2 == 0, id, DECORATION_NON_READABLE);
+            decorate_if(sections, v, x / 2 % 2 == 0, id, DECORATION_NON_WRITABLE)
         }
     }
 }
@@ -79,8 +79,18 @@ pub fn decorate_binding(sections: &mut [u32], w: Writer, id: u64, binding: Bindi
         Binding::Unbound => w,
         Binding::Bound(r) => {
             let t = low_word(id);
-            let a = writer::annotate(sections, w, OP_DECORATE, &[t, DESCRIPTOR_SET, r.group]);
-            writer::annotate(sections, a, OP_DECORATE, &[t, BINDING, r.binding])
+            let a = writer::annotate(
+                sections,
+                w,
+                OP_DECORATE,
+                &[t, DECORATION_DESCRIPTOR_SET, r.group],
+            );
+            writer::annotate(
+                sections,
+                a,
+                OP_DECORATE,
+                &[t, DECORATION_BINDING, r.binding],
+            )
         }
     }
 }
@@ -118,7 +128,12 @@ pub fn block_base(
         Base::Nothing => w,
         Base::Of(b) => {
             let f = finding::get_type_id(tables, sections, w, LookupType::Handle(b));
-            writer::annotate(sections, f.writer, OP_DECORATE, &[low_word(f.id), BLOCK])
+            writer::annotate(
+                sections,
+                f.writer,
+                OP_DECORATE,
+                &[low_word(f.id), DECORATION_BLOCK],
+            )
         }
     }
 }

@@ -17,6 +17,7 @@ use lookup::LookupType;
 use pointers::pointer_form_of;
 use pointers::write_pointer;
 use spirv::helpers::map_storage_class;
+use spirv::instructions::OP_VARIABLE;
 use writer::Writer;
 use writer::low_word;
 ghost use mathlib.Core.Path.{_≡_};
@@ -39,32 +40,6 @@ ghost use Rattle.finding.specs.Costs.{nullCost};
 ghost use Rattle.writer_globals.specs.Costs.{globalCost};
 ghost use Rattle.writer_globals.specs.Globals.{Added, initIn, Initialised, GlobalKept};
 ghost use Rattle.writer_globals.specs.Records.{globalIn, Tested};
-
-const OP_TYPE_STRUCT: u32 = 30;
-
-const OP_TYPE_POINTER: u32 = 32;
-
-const OP_VARIABLE: u32 = 59;
-
-const OP_DECORATE: u32 = 71;
-
-const OP_MEMBER_DECORATE: u32 = 72;
-
-const BLOCK: u32 = 2;
-
-const COL_MAJOR: u32 = 5;
-
-const MATRIX_STRIDE: u32 = 7;
-
-const NON_WRITABLE: u32 = 24;
-
-const NON_READABLE: u32 = 25;
-
-const BINDING: u32 = 33;
-
-const DESCRIPTOR_SET: u32 = 34;
-
-const OFFSET: u32 = 35;
 
 // Spaces, as document 01 numbers them.
 const FUNCTION: u8 = 0;

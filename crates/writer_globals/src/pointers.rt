@@ -1,17 +1,17 @@
 // The pointer type of a global. How it is come by is read from the sheet first; what is written then never sees the sheet.
-use crate::BLOCK;
-use crate::COL_MAJOR;
-use crate::MATRIX_STRIDE;
-use crate::OFFSET;
-use crate::OP_DECORATE;
-use crate::OP_MEMBER_DECORATE;
-use crate::OP_TYPE_POINTER;
-use crate::OP_TYPE_STRUCT;
 use entries::globals::Binding;
 use entries::globals::GlobalVariable;
 use lookup::LocalType;
 use lookup::LookupType;
 use spirv::helpers::map_storage_class;
+use spirv::instructions::DECORATION_BLOCK;
+use spirv::instructions::DECORATION_COL_MAJOR;
+use spirv::instructions::DECORATION_MATRIX_STRIDE;
+use spirv::instructions::DECORATION_OFFSET;
+use spirv::instructions::OP_DECORATE;
+use spirv::instructions::OP_MEMBER_DECORATE;
+use spirv::instructions::OP_TYPE_POINTER;
+use spirv::instructions::OP_TYPE_STRUCT;
 use type_facts::Base;
 use type_facts::Number;
 use writer::Taken;
@@ -50,8 +50,18 @@ fn stride_member(sections: &mut [u32], w: Writer, id: u64, stride: Number) -> Wr
         Number::Nothing => w,
         Number::Of(x) => {
             let t = low_word(id);
-            let a = writer::annotate(sections, w, OP_MEMBER_DECORATE, &[t, 0, COL_MAJOR]);
-            writer::annotate(sections, a, OP_MEMBER_DECORATE, &[t, 0, MATRIX_STRIDE, x])
+            let a = writer::annotate(
+                sections,
+                w,
+                OP_MEMBER_DECORATE,
+                &[t, 0, DECORATION_COL_MAJOR],
+            );
+            writer::annotate(
+                sections,
+                a,
+                OP_MEMBER_DECORATE,
+                &[t, 0, DECORATION_MATRIX_STRIDE, x],
+            )
         }
     }
 }
@@ -71,8 +81,13 @@ fn write_wrapper(
     let n = writer::take_id(w);
     let id = n.id;
     let x = low_word(id);
-    let a = writer::annotate(sections, n.writer, OP_DECORATE, &[x, BLOCK]);
-    let b = writer::annotate(sections, a, OP_MEMBER_DECORATE, &[x, 0, OFFSET, 0]);
+    let a = writer::annotate(sections, n.writer, OP_DECORATE, &[x, DECORATION_BLOCK]);
+    let b = writer::annotate(
+        sections,
+        a,
+        OP_MEMBER_DECORATE,
+        &[x, 0, DECORATION_OFFSET, 0],
+    );
     let c = stride_member(sections, b, id, stride);
     let f = finding::get_type_id(tables, sections, c, LookupType::Handle(ty));
     let d = writer::declare(sections, f.writer, OP_TYPE_STRUCT, &[x, low_word(f.id)]);

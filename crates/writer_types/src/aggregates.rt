@@ -1,5 +1,10 @@
 // Arrays, and a struct's instruction, each under the id that was taken for it.
 use lookup::LookupType;
+use spirv::instructions::DECORATION_ARRAY_STRIDE;
+use spirv::instructions::OP_DECORATE;
+use spirv::instructions::OP_TYPE_ARRAY;
+use spirv::instructions::OP_TYPE_RUNTIME_ARRAY;
+use spirv::instructions::OP_TYPE_STRUCT;
 use writer::Writer;
 ghost use Prim.Native.Nat.{_+_, _<_};
 ghost use Rattle.definition.specs.Sheet.{membersAt};
@@ -9,16 +14,6 @@ ghost use Rattle.writer.specs.Steps.{Kept};
 ghost use Rattle.writer_types.specs.Arrays.{elementsDeclared, arrayDeclared};
 ghost use Rattle.writer_types.specs.Members.{StructPut};
 ghost use Rattle.writer_types.specs.Costs.{elementsCost, arrayCost};
-
-const OP_TYPE_ARRAY: u32 = 28;
-
-const OP_TYPE_RUNTIME_ARRAY: u32 = 29;
-
-const OP_TYPE_STRUCT: u32 = 30;
-
-const OP_DECORATE: u32 = 71;
-
-const DECORATION_ARRAY_STRIDE: u32 = 6;
 
 // A BindingArray, and what an Array shares with it: the base is found, then the length; a size of 0 is dynamic.
 pub fn write_elements(

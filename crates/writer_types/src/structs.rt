@@ -2,6 +2,12 @@
 // offset, and a name; the next stands behind the name.
 use crate::aggregates::put_struct;
 use crate::names::name_member;
+use spirv::instructions::DECORATION_BLOCK;
+use spirv::instructions::DECORATION_COL_MAJOR;
+use spirv::instructions::DECORATION_MATRIX_STRIDE;
+use spirv::instructions::DECORATION_OFFSET;
+use spirv::instructions::OP_DECORATE;
+use spirv::instructions::OP_MEMBER_DECORATE;
 use type_facts::Number;
 use type_facts::element_stride;
 use type_facts::is_dynamic;
@@ -19,18 +25,6 @@ ghost use Rattle.writer.specs.Held.{RoomFor, Room};
 ghost use Rattle.writer.specs.Steps.{Kept};
 ghost use Rattle.writer_types.specs.Members.{Added, memberAt, decorated};
 ghost use Rattle.writer_types.specs.Costs.{memberCost, membersCost, structCost};
-
-const OP_DECORATE: u32 = 71;
-
-const OP_MEMBER_DECORATE: u32 = 72;
-
-const DECORATION_BLOCK: u32 = 2;
-
-const DECORATION_COL_MAJOR: u32 = 5;
-
-const DECORATION_MATRIX_STRIDE: u32 = 7;
-
-const DECORATION_OFFSET: u32 = 35;
 
 // How the columns of member i lie, where it has columns.
 fn stride_member(sections: &mut [u32], w: Writer, id: u64, i: u32, x: Number) -> Writer
