@@ -78,21 +78,21 @@ begins s T S m p nr nb start′ k w h a e ek es low ew held =
       few = record { remaps = omega arith; types = omega arith; constants = omega arith; globals = omega arith };
       small = z .1;
       used = rw ew (omega arith);
-      memo = nothing-known [] m e;
+      memo = nothing-known [] m (omega arith) e;
       globals-fit = λ i. refl;
       state = empty (startOf s);
       held = subst (λ (j : ℕ). Held w T S (empty j)) es held;
       going = start recordTest (declareRecord (optionsOf (flagsOf s))) s 6 (progressOf s p noCounts (empty (startOf s))) (z .0);
     })
 
--- a memo speaks of the types read; what is no type changes nothing
-memo-added : (n : Seen) (r : ℕ) (e : Entry) (m : List ℕ) → Memo (n .types) m → Memo (add n r e .types) m
+-- a memo speaks of the types read, and has a place for each; what is no type changes nothing
+memo-added : (n : Seen) (r : ℕ) (e : Entry) (m : List ℕ) → length (add n r e .types) ≤ length m → Memo (n .types) m → Memo (add n r e .types) m
 unfolding add
-memo-added n r (available cs) m h = h
-memo-added n r (remap x) m h = h
-memo-added n r (type t) m h = grows (n .types) t m h
-memo-added n r (constant c) m h = h
-memo-added n r (global g) m h = h
+memo-added n r (available cs) m l h = h
+memo-added n r (remap x) m l h = h
+memo-added n r (type t) m l h = grows (n .types) t m l h
+memo-added n r (constant c) m l h = h
+memo-added n r (global g) m l h = h
 
 -- a global that is added passed test 10
 fits-added : (n : Seen) (r : ℕ) (e : Entry) → valuesFit e ≡ true → GlobalsFit n → GlobalsFit (add n r e)
@@ -199,6 +199,7 @@ module _ (s T₀ S₀ m₀ : List ℕ) (p₀ : Places) (nr nb : ℕ) (T S m : Li
               let x = declareEntry o (seenOf s p k) (entryOf (recordAt (drop at s)) .value) (h .state) in
               let u = tested-room (rw e read) .1 (t .writer) (v .grown) in
               let en : at′ ≡ at + l = omega (arith, ea, record-length rest one .0) in
+              let places : length (seenOf s p′ k′ .types) ≤ length m′ = omega (arith, counted s p′ k′ (a .ample) (a .few) .types, a .few .types, lm, h .memo-length, cap .memo-length) in
               record {
                 tables = lT ∙ h .tables;
                 sections = lS ∙ h .sections;
@@ -211,7 +212,7 @@ module _ (s T₀ S₀ m₀ : List ℕ) (p₀ : Places) (nr nb : ℕ) (T S m : Li
                 few = a .few;
                 small = h .small;
                 used = rw (en, a .counts, ← e) u;
-                memo = subst (λ (n : Seen). Memo (n .types) m′) (sym (a .seen)) (memo-added (seenOf s p k) (tagRank (recordFrom s at .tag)) (entryOf (recordFrom s at) .value) m′ (turn .memo));
+                memo = subst (λ (n : Seen). Memo (n .types) m′) (sym (a .seen)) (memo-added (seenOf s p k) (tagRank (recordFrom s at .tag)) (entryOf (recordFrom s at) .value) m′ (subst (λ (n : Seen). length (n .types) ≤ length m′) (a .seen) places) (turn .memo));
                 globals-fit = subst GlobalsFit (sym (a .seen)) (fits-added (seenOf s p k) (tagRank (recordFrom s at .tag)) (entryOf (recordFrom s at) .value) (told (seenOf s p k) (recordFrom s at) (entryOf (recordFrom s at)) refl read .values) (h .globals-fit));
                 state = x;
                 held = subst (λ (y : List ℕ). Held (t .writer) T′ S′ (declareEntry o (seenOf s p k) (entryOf (recordAt y) .value) (h .state))) e (v .held (seenOf s p k) b (h .state) (h .held));

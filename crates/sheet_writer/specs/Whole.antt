@@ -34,6 +34,7 @@ pub record Capacity (s : List ℕ) (records bytes : ℕ) (T S m : List ℕ) : Ty
   pub tables : 24 * records + bytes ≤ length T
   pub sections : 7 * bytes ≤ length S
   pub memo : (j : ℕ) → getD m j 0 ≡ 0
+  pub memo-length : typesMost ≤ length m
 
 -- the globals that were read passed test 10
 abbrev pub GlobalsFit : Seen → Type 0

@@ -22,8 +22,10 @@ abbrev pub memoFlag : Bool → ℕ
 memoFlag true = 1
 memoFlag false = 2
 
--- what a memo says of the types: 1 yes, 2 no, else nothing; and of what is no type nothing
+-- what a memo says of the types: 1 yes, 2 no, else nothing; and of what is no type nothing. It has a place for each type, so that
+-- what is found of one is kept: else a type would be looked into again as often as it is a part, and the walk could be exponential
 pub record Memo (ts : List TypeEntry) (m : List ℕ) : Type 0 where
+  pub long : length ts ≤ length m
   pub yes : (k : ℕ) → getD m k 0 ≡ 1 → zeroable ts k ≡ true
   pub no : (k : ℕ) → getD m k 0 ≡ 2 → zeroable ts k ≡ false
   pub fresh : (k : ℕ) → length ts ≤ k → getD m k 0 ≡ 0

@@ -1,6 +1,7 @@
 // Whether a type is zeroable: whether every part under it is (part of test 13 of document 01).
 // A recursive walk over the type entries, in which the entry's index falls at each call. The caller lends a memo of a flag
-// for each entry, 0 for not yet known, so that an entry is looked into once, however often it is a part.
+// for each entry, 0 for not yet known, and `Memo` asks that it has one for each: so an entry is looked into once, however often
+// it is a part. Without its flag the walk could be exponential in how deep the parts go.
 ghost use mathlib.Core.Path.{_≡_};
 ghost use Prim.Native.Nat.{_+_, _<_, _≤_};
 ghost use lib.ListN.{length, set};
@@ -11,14 +12,13 @@ ghost use Rattle.zeroable.specs.Memo.{Memo, memoFlag, partZeroable, zero
 
 // Keeps what was found of type i.
 fn keep(memo: &mut [u8], i: usize, z: bool)
+    requires { ⌜ i < length (now memo) ⌝ }
     ensures { λ r. ⌜ now (memo .exit) ≡ set (now (memo .entry)) i (memoFlag z) ⌝ }
 {
-    if i < memo.len() {
-        if z {
-            memo[i] = 1;
-        } else {
-            memo[i] = 2;
-        }
+    if z {
+        memo[i] = 1;
+    } else {
+        memo[i] = 2;
     }
 }
 

@@ -16,7 +16,7 @@ use Rattle.sheet_fields.proofs.Each.{each-yes, each-no, each-end, types as walk
 use Rattle.records.specs.Places.{typesFrom}
 use Rattle.records.proofs.Types.{count}
 use Rattle.zeroable.specs.Memo.{partZeroable, zeroMembers, Memo}
-use Rattle.zeroable.proofs.Kept.{kept, said-yes, said-no}
+use Rattle.zeroable.proofs.Kept.{has-place, kept, said-yes, said-no}
 use Rattle.zeroable.proofs.Order.{by-tag, no-zero}
 use Rattle.zeroable.proofs.+is_zeroable+zero_entry+zero_members+zero_part.{statement}
 use Rattle.zeroable.proofs.+is_zeroable+zero_entry+zero_members+zero_part.Tie.{close}
@@ -119,7 +119,10 @@ is-zeroable-zero-entry-requires : (t : ℕ) → is-zeroable-lts.Need-zero-entry-
 is-zeroable-zero-entry-requires t c κs = search needs
 
 is-zeroable-keep-requires : (t : ℕ) → is-zeroable-lts.Need-keep-requires (is-zeroable-claims t) (is-zeroable-at t) is-zeroable.Post
-is-zeroable-keep-requires t c κs = search needs
+is-zeroable-keep-requires t c κs =
+    let st = c .before .before .before .before .before .before .before .before .before .before .before .before in
+    let a = st .args in
+    has-place (typesFrom (now (a .s)) (now (a .types)) (a .n)) _ (a .i) (c .before .before .before .zero-entry .ensures .1) (rw (count (now (a .s)) (now (a .types)) (a .n) (st .pre .1 .0)) (st .pre .1 .1 .0))
 
 is-zeroable-same-length-3 : (t : ℕ) → is-zeroable-lts.Need-same-length-3 (is-zeroable-claims t) (is-zeroable-at t) is-zeroable.Post
 is-zeroable-same-length-3 t c = search needs

@@ -1,7 +1,5 @@
--- A flag for each answer; past the memo's end nothing is kept, and nothing set.
-use mathlib.Core.Path.{sym}
+-- A flag for each answer.
 use borrow.Author.Needs.{needs}
-use lib.Seq.{set-out}
 use Rattle.zeroable.proofs.keep.Statement.{statement}
 use Rattle.zeroable.proofs.keep.Tie as tie
 
@@ -15,25 +13,15 @@ same-length : tie.Need-same-length
 same-length c = search needs
 
 returns : tie.Need-returns
-returns c = simp (c .if2 .taken)
+returns c = simp (c .if1 .taken)
 
 same-length-2 : tie.Need-same-length-2
 same-length-2 c = search needs
 
 returns-2 : tie.Need-returns-2
-returns-2 c = simp (c .if2 .left)
-
-returns-3 : tie.Need-returns-3
-returns-3 c = sym (set-out _ _ _ (c .if1 .left))
+returns-2 c = simp (c .if1 .left)
 
 pub keep-spec : {M : Type 1} → statement M
 keep-spec =
     tie.close
-    (tie.spec
-    slice-write-memo
-    slice-write-memo-2
-    same-length
-    returns
-    same-length-2
-    returns-2
-    returns-3)
+    (tie.spec slice-write-memo slice-write-memo-2 same-length returns same-length-2 returns-2)
