@@ -6,27 +6,6 @@ use Rattle.definition.specs.Sheet.{constantFields, Value}
 use Rattle.entries.proofs.constants.expression_of.Statement.{statement}
 use Rattle.entries.proofs.constants.expression_of.Tie as tie
 
-literal-of-requires : tie.Need-literal-of-requires
-literal-of-requires c κs = search needs
-
-u16-at-requires : tie.Need-u16-at-requires
-u16-at-requires c κs = search needs
-
-u16-at-requires-2 : tie.Need-u16-at-requires-2
-u16-at-requires-2 c κs = search needs
-
-u16-at-requires-3 : tie.Need-u16-at-requires-3
-u16-at-requires-3 c κs = search needs
-
-u16-at-requires-4 : tie.Need-u16-at-requires-4
-u16-at-requires-4 c κs = search needs
-
-u8-at-requires : tie.Need-u8-at-requires
-u8-at-requires c κs = search needs
-
-u16-at-requires-5 : tie.Need-u16-at-requires-5
-u16-at-requires-5 c κs = search needs
-
 returns : tie.Need-returns
 unfolding constantFields
 returns c = simp (c .before .match .keys1) (λ h. ap Value (c .literal-of .ensures h))
@@ -50,16 +29,5 @@ returns-5 c = λ h. simp (ne-eqb _ _ (c .before .before .match .rest .0 .0 .0 .1
 pub expression-of-spec : {M : Type 1} → statement M
 expression-of-spec =
     tie.close
-    (tie.spec
-    literal-of-requires
-    u16-at-requires
-    u16-at-requires-2
-    u16-at-requires-3
-    u16-at-requires-4
-    u8-at-requires
-    u16-at-requires-5
-    returns
-    returns-2
-    returns-3
-    returns-4
-    returns-5)
+    (tie.spec (λ c κs. search needs) (λ c κs. search needs) (λ c κs. search needs) (λ c κs. search needs) (λ c κs. search needs)
+    (λ c κs. search needs) (λ c κs. search needs) returns returns-2 returns-3 returns-4 returns-5)

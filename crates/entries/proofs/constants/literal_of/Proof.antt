@@ -8,36 +8,6 @@ use Rattle.kinds.proofs.Fit.{flag-byte}
 use Rattle.entries.proofs.constants.literal_of.Statement.{statement}
 use Rattle.entries.proofs.constants.literal_of.Tie as tie
 
-u8-at-requires : tie.Need-u8-at-requires
-u8-at-requires c κs = search needs
-
-u64-at-requires : tie.Need-u64-at-requires
-u64-at-requires c κs = search needs
-
-f64-of-bits-requires : tie.Need-f64-of-bits-requires
-f64-of-bits-requires c κs = search needs
-
-u32-at-requires : tie.Need-u32-at-requires
-u32-at-requires c κs = search needs
-
-f32-of-bits-requires : tie.Need-f32-of-bits-requires
-f32-of-bits-requires c κs = search needs
-
-u32-at-requires-2 : tie.Need-u32-at-requires-2
-u32-at-requires-2 c κs = search needs
-
-u32-of-bits-requires : tie.Need-u32-of-bits-requires
-u32-of-bits-requires c κs = search needs
-
-u32-at-requires-3 : tie.Need-u32-at-requires-3
-u32-at-requires-3 c κs = search needs
-
-i32-of-bits-requires : tie.Need-i32-of-bits-requires
-i32-of-bits-requires c κs = search needs
-
-u8-at-requires-2 : tie.Need-u8-at-requires-2
-u8-at-requires-2 c κs = search needs
-
 returns : tie.Need-returns
 unfolding literalFields
 returns c = λ h. simp (← c .before .before .before .u8-at .ensures, c .before .before .match .keys1, ← c .before .u64-at .ensures) (c .f64-of-bits .ensures)
@@ -61,19 +31,6 @@ returns-5 c = λ h. let g = simp (← c .before .before .u8-at .ensures, ne-eqb 
 pub literal-of-spec : {M : Type 1} → statement M
 literal-of-spec =
     tie.close
-    (tie.spec
-    u8-at-requires
-    u64-at-requires
-    f64-of-bits-requires
-    u32-at-requires
-    f32-of-bits-requires
-    u32-at-requires-2
-    u32-of-bits-requires
-    u32-at-requires-3
-    i32-of-bits-requires
-    u8-at-requires-2
-    returns
-    returns-2
-    returns-3
-    returns-4
-    returns-5)
+    (tie.spec (λ c κs. search needs) (λ c κs. search needs) (λ c κs. search needs) (λ c κs. search needs) (λ c κs. search needs)
+    (λ c κs. search needs) (λ c κs. search needs) (λ c κs. search needs) (λ c κs. search needs) (λ c κs. search needs) returns
+    returns-2 returns-3 returns-4 returns-5)

@@ -9,39 +9,6 @@ use Rattle.definition.proofs.Truth.{both}
 use Rattle.entries.proofs.globals.global_of.Statement.{statement}
 use Rattle.entries.proofs.globals.global_of.Tie as tie
 
-name-end-requires : tie.Need-name-end-requires
-name-end-requires c κs = search needs
-
-add-u8-at : tie.Need-add-u8-at
-add-u8-at c = search needs
-
-u8-at-requires : tie.Need-u8-at-requires
-u8-at-requires c κs = search needs
-
-add-u8-at-2 : tie.Need-add-u8-at-2
-add-u8-at-2 c = search needs
-
-u8-at-requires-2 : tie.Need-u8-at-requires-2
-u8-at-requires-2 c κs = search needs
-
-space-of-requires : tie.Need-space-of-requires
-space-of-requires c κs = search needs
-
-binding-of-requires : tie.Need-binding-of-requires
-binding-of-requires c κs = search needs
-
-add-u16-at : tie.Need-add-u16-at
-add-u16-at c = search needs
-
-u16-at-requires : tie.Need-u16-at-requires
-u16-at-requires c κs = search needs
-
-init-of-requires : tie.Need-init-of-requires
-init-of-requires c κs = search needs
-
-u16-at-requires-2 : tie.Need-u16-at-requires-2
-u16-at-requires-2 c κs = search needs
-
 returns : tie.Need-returns
 unfolding globalFields
 returns c = rw (← c .before .before .before .before .before .before .before .name-end .ensures .0) (λ h.
@@ -55,16 +22,6 @@ returns c = rw (← c .before .before .before .before .before .before .before .n
 pub global-of-spec : {M : Type 1} → statement M
 global-of-spec =
     tie.close
-    (tie.spec
-    name-end-requires
-    add-u8-at
-    u8-at-requires
-    add-u8-at-2
-    u8-at-requires-2
-    space-of-requires
-    binding-of-requires
-    add-u16-at
-    u16-at-requires
-    init-of-requires
-    u16-at-requires-2
-    returns)
+    (tie.spec (λ c κs. search needs) (λ c. search needs) (λ c κs. search needs) (λ c. search needs) (λ c κs. search needs)
+    (λ c κs. search needs) (λ c κs. search needs) (λ c. search needs) (λ c κs. search needs) (λ c κs. search needs)
+    (λ c κs. search needs) returns)

@@ -18,9 +18,6 @@ picked : (b : Bool) (x : List ℕ) → not b ≡ present (pick b none (some x))
 picked true x = refl
 picked false x = refl
 
-u8-at-requires : tie.Need-u8-at-requires
-u8-at-requires c κs = search needs
-
 returns : tie.Need-returns
 unfolding nameAt
 returns c =
@@ -30,4 +27,4 @@ returns c =
     rw (c .u8-at .ensures) (picked (eqb n 255) (take n (drop (a .i + 1) b)))
 
 pub has-name-spec : {M : Type 1} → statement M
-has-name-spec = tie.close (tie.spec u8-at-requires returns)
+has-name-spec = tie.close (tie.spec (λ c κs. search needs) returns)

@@ -7,39 +7,6 @@ use Rattle.kinds.proofs.Fit.{flag}
 use Rattle.entries.proofs.types.image.Statement.{statement}
 use Rattle.entries.proofs.types.image.Tie as tie
 
-add-u8-at : tie.Need-add-u8-at
-add-u8-at c = search needs
-
-u8-at-requires : tie.Need-u8-at-requires
-u8-at-requires c κs = search needs
-
-add-u8-at-2 : tie.Need-add-u8-at-2
-add-u8-at-2 c = search needs
-
-u8-at-requires-2 : tie.Need-u8-at-requires-2
-u8-at-requires-2 c κs = search needs
-
-add-u8-at-3 : tie.Need-add-u8-at-3
-add-u8-at-3 c = search needs
-
-u8-at-requires-3 : tie.Need-u8-at-requires-3
-u8-at-requires-3 c κs = search needs
-
-class-of-requires : tie.Need-class-of-requires
-class-of-requires c κs = search needs
-
-u8-at-requires-4 : tie.Need-u8-at-requires-4
-u8-at-requires-4 c κs = search needs
-
-dimension-of-requires : tie.Need-dimension-of-requires
-dimension-of-requires c κs = search needs
-
-add-u8-at-4 : tie.Need-add-u8-at-4
-add-u8-at-4 c = search needs
-
-u8-at-requires-5 : tie.Need-u8-at-requires-5
-u8-at-requires-5 c κs = search needs
-
 returns : tie.Need-returns
 unfolding typeFields
 returns c = λ h.
@@ -53,16 +20,6 @@ returns c = λ h.
 pub image-spec : {M : Type 1} → statement M
 image-spec =
     tie.close
-    (tie.spec
-    add-u8-at
-    u8-at-requires
-    add-u8-at-2
-    u8-at-requires-2
-    add-u8-at-3
-    u8-at-requires-3
-    class-of-requires
-    u8-at-requires-4
-    dimension-of-requires
-    add-u8-at-4
-    u8-at-requires-5
-    returns)
+    (tie.spec (λ c. search needs) (λ c κs. search needs) (λ c. search needs) (λ c κs. search needs) (λ c. search needs)
+    (λ c κs. search needs) (λ c κs. search needs) (λ c κs. search needs) (λ c κs. search needs) (λ c. search needs)
+    (λ c κs. search needs) returns)

@@ -6,42 +6,6 @@ use Rattle.entries.proofs.Fit.{taken}
 use Rattle.entries.proofs.types.inner_of.Statement.{statement}
 use Rattle.entries.proofs.types.inner_of.Tie as tie
 
-name-end-requires : tie.Need-name-end-requires
-name-end-requires c κs = search needs
-
-scalar-requires : tie.Need-scalar-requires
-scalar-requires c κs = search needs
-
-vector-requires : tie.Need-vector-requires
-vector-requires c κs = search needs
-
-matrix-requires : tie.Need-matrix-requires
-matrix-requires c κs = search needs
-
-atomic-requires : tie.Need-atomic-requires
-atomic-requires c κs = search needs
-
-pointer-requires : tie.Need-pointer-requires
-pointer-requires c κs = search needs
-
-value-pointer-requires : tie.Need-value-pointer-requires
-value-pointer-requires c κs = search needs
-
-array-requires : tie.Need-array-requires
-array-requires c κs = search needs
-
-structure-requires : tie.Need-structure-requires
-structure-requires c κs = search needs
-
-image-requires : tie.Need-image-requires
-image-requires c κs = search needs
-
-sampler-requires : tie.Need-sampler-requires
-sampler-requires c κs = search needs
-
-binding-array-requires : tie.Need-binding-array-requires
-binding-array-requires c κs = search needs
-
 returns : tie.Need-returns
 returns c = taken _ _ _ _ _ (c .scalar .result) (c .before .match .keys1) (c .before .before .name-end .ensures .0) (c .scalar .ensures)
 
@@ -87,29 +51,7 @@ returns-13 c = simp (ne-eqb _ _ (c .before .match .rest .0 .0 .0 .0 .0 .0 .0 .0 
 pub inner-of-spec : {M : Type 1} → statement M
 inner-of-spec =
     tie.close
-    (tie.spec
-    name-end-requires
-    scalar-requires
-    vector-requires
-    matrix-requires
-    atomic-requires
-    pointer-requires
-    value-pointer-requires
-    array-requires
-    structure-requires
-    image-requires
-    sampler-requires
-    binding-array-requires
-    returns
-    returns-2
-    returns-3
-    returns-4
-    returns-5
-    returns-6
-    returns-7
-    returns-8
-    returns-9
-    returns-10
-    returns-11
-    returns-12
-    returns-13)
+    (tie.spec (λ c κs. search needs) (λ c κs. search needs) (λ c κs. search needs) (λ c κs. search needs) (λ c κs. search needs)
+    (λ c κs. search needs) (λ c κs. search needs) (λ c κs. search needs) (λ c κs. search needs) (λ c κs. search needs)
+    (λ c κs. search needs) (λ c κs. search needs) returns returns-2 returns-3 returns-4 returns-5 returns-6 returns-7 returns-8
+    returns-9 returns-10 returns-11 returns-12 returns-13)

@@ -5,22 +5,10 @@ use Rattle.kinds.proofs.Fit.{kind}
 use Rattle.entries.proofs.types.scalar.Statement.{statement}
 use Rattle.entries.proofs.types.scalar.Tie as tie
 
-u8-at-requires : tie.Need-u8-at-requires
-u8-at-requires c κs = search needs
-
-kind-of-requires : tie.Need-kind-of-requires
-kind-of-requires c κs = search needs
-
-add-u8-at : tie.Need-add-u8-at
-add-u8-at c = search needs
-
-u8-at-requires-2 : tie.Need-u8-at-requires-2
-u8-at-requires-2 c κs = search needs
-
 returns : tie.Need-returns
 unfolding typeFields
 returns c = λ h. let k = c .before .kind-of .ensures (rw (c .before .before .u8-at .ensures) (kind _ _ h)) in cc
 
 pub scalar-spec : {M : Type 1} → statement M
 scalar-spec =
-    tie.close (tie.spec u8-at-requires kind-of-requires add-u8-at u8-at-requires-2 returns)
+    tie.close (tie.spec (λ c κs. search needs) (λ c κs. search needs) (λ c. search needs) (λ c κs. search needs) returns)

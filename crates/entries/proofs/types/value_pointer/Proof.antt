@@ -12,39 +12,6 @@ use Rattle.kinds.proofs.Fit.{kind}
 use Rattle.entries.proofs.types.value_pointer.Statement.{statement}
 use Rattle.entries.proofs.types.value_pointer.Tie as tie
 
-u8-at-requires : tie.Need-u8-at-requires
-u8-at-requires c κs = search needs
-
-add-u8-at : tie.Need-add-u8-at
-add-u8-at c = search needs
-
-u8-at-requires-2 : tie.Need-u8-at-requires-2
-u8-at-requires-2 c κs = search needs
-
-kind-of-requires : tie.Need-kind-of-requires
-kind-of-requires c κs = search needs
-
-add-u8-at-2 : tie.Need-add-u8-at-2
-add-u8-at-2 c = search needs
-
-u8-at-requires-3 : tie.Need-u8-at-requires-3
-u8-at-requires-3 c κs = search needs
-
-add-u8-at-3 : tie.Need-add-u8-at-3
-add-u8-at-3 c = search needs
-
-u8-at-requires-4 : tie.Need-u8-at-requires-4
-u8-at-requires-4 c κs = search needs
-
-add-u8-at-4 : tie.Need-add-u8-at-4
-add-u8-at-4 c = search needs
-
-u8-at-requires-5 : tie.Need-u8-at-requires-5
-u8-at-requires-5 c κs = search needs
-
-space-of-requires : tie.Need-space-of-requires
-space-of-requires c κs = search needs
-
 returns : tie.Need-returns
 unfolding typeFields
 returns c = λ h.
@@ -59,16 +26,6 @@ returns c = λ h.
 pub value-pointer-spec : {M : Type 1} → statement M
 value-pointer-spec =
     tie.close
-    (tie.spec
-    u8-at-requires
-    add-u8-at
-    u8-at-requires-2
-    kind-of-requires
-    add-u8-at-2
-    u8-at-requires-3
-    add-u8-at-3
-    u8-at-requires-4
-    add-u8-at-4
-    u8-at-requires-5
-    space-of-requires
-    returns)
+    (tie.spec (λ c κs. search needs) (λ c. search needs) (λ c κs. search needs) (λ c κs. search needs) (λ c. search needs)
+    (λ c κs. search needs) (λ c. search needs) (λ c κs. search needs) (λ c. search needs) (λ c κs. search needs)
+    (λ c κs. search needs) returns)

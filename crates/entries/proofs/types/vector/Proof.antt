@@ -10,24 +10,6 @@ use Rattle.kinds.proofs.Fit.{kind}
 use Rattle.entries.proofs.types.vector.Statement.{statement}
 use Rattle.entries.proofs.types.vector.Tie as tie
 
-u8-at-requires : tie.Need-u8-at-requires
-u8-at-requires c κs = search needs
-
-add-u8-at : tie.Need-add-u8-at
-add-u8-at c = search needs
-
-u8-at-requires-2 : tie.Need-u8-at-requires-2
-u8-at-requires-2 c κs = search needs
-
-kind-of-requires : tie.Need-kind-of-requires
-kind-of-requires c κs = search needs
-
-add-u8-at-2 : tie.Need-add-u8-at-2
-add-u8-at-2 c = search needs
-
-u8-at-requires-3 : tie.Need-u8-at-requires-3
-u8-at-requires-3 c κs = search needs
-
 returns : tie.Need-returns
 unfolding typeFields
 returns c = λ h.
@@ -40,11 +22,5 @@ returns c = λ h.
 pub vector-spec : {M : Type 1} → statement M
 vector-spec =
     tie.close
-    (tie.spec
-    u8-at-requires
-    add-u8-at
-    u8-at-requires-2
-    kind-of-requires
-    add-u8-at-2
-    u8-at-requires-3
-    returns)
+    (tie.spec (λ c κs. search needs) (λ c. search needs) (λ c κs. search needs) (λ c κs. search needs) (λ c. search needs)
+    (λ c κs. search needs) returns)

@@ -17,9 +17,6 @@ Inv-loop sink₀ bytes n i₀ sink i = (i ≤ n) × (sink ≡ laid i (packed byt
 abbrev μ-loop : tie.MeasureT-loop
 μ-loop sink₀ bytes n i₀ sink i = n - i
 
-add-n : tie.Need-add-n Inv-loop μ-loop
-add-n c = search needs
-
 returns : tie.Need-returns Inv-loop μ-loop
 returns c =
     let a = c .before .before .before .args in
@@ -28,36 +25,12 @@ returns c =
 loop-holds : tie.Need-loop-holds Inv-loop μ-loop
 loop-holds c = (search needs, refl)
 
-mul-bytes-to-word : tie.Need-mul-bytes-to-word Inv-loop μ-loop
-mul-bytes-to-word c = search needs
-
-sub-bytes-to-word : tie.Need-sub-bytes-to-word Inv-loop μ-loop
-sub-bytes-to-word c = search needs
-
-part-bytes-to-word-start : tie.Need-part-bytes-to-word-start Inv-loop μ-loop
-part-bytes-to-word-start c = search needs
-
-part-bytes-to-word-end : tie.Need-part-bytes-to-word-end Inv-loop μ-loop
-part-bytes-to-word-end c = search needs
-
-bytes-to-word-requires : tie.Need-bytes-to-word-requires Inv-loop μ-loop
-bytes-to-word-requires c κs = search needs
-
-mul-sink : tie.Need-mul-sink Inv-loop μ-loop
-mul-sink c = search needs
-
 slice-write-sink : tie.Need-slice-write-sink Inv-loop μ-loop
 slice-write-sink c =
     let a = c .before .before .before .before .before .before .before .args in
     let l = c .before .before .before .loop in
     let n = packed-length (a .bytes .now) in
     omega (arith, laid-length (packed (a .bytes .now)) (a .sink .now) (l .sink) (l .i) (l .inv .1) (omega arith) (omega arith))
-
-add-i : tie.Need-add-i Inv-loop μ-loop
-add-i c = search needs
-
-loop-less : tie.Need-loop-less Inv-loop μ-loop
-loop-less c = search needs
 
 loop-again : tie.Need-loop-again Inv-loop μ-loop
 loop-again c =
@@ -85,21 +58,6 @@ returns-2 c =
 pub string-to-words-spec : {M : Type 1} → statement M
 string-to-words-spec =
     tie.close
-    (tie.spec
-    Inv-loop
-    μ-loop
-    add-n
-    returns
-    loop-holds
-    mul-bytes-to-word
-    sub-bytes-to-word
-    part-bytes-to-word-start
-    part-bytes-to-word-end
-    bytes-to-word-requires
-    mul-sink
-    slice-write-sink
-    add-i
-    loop-less
-    loop-again
-    same-length
-    returns-2)
+    (tie.spec Inv-loop μ-loop (λ c. search needs) returns loop-holds (λ c. search needs) (λ c. search needs) (λ c. search needs)
+    (λ c. search needs) (λ c κs. search needs) (λ c. search needs) slice-write-sink (λ c. search needs) (λ c. search needs)
+    loop-again same-length returns-2)

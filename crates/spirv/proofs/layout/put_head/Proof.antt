@@ -11,41 +11,8 @@ use Rattle.spirv.proofs.Puts.{behind, nothing}
 use Rattle.spirv.proofs.layout.put_head.Statement.{statement}
 use Rattle.spirv.proofs.layout.put_head.Tie as tie
 
-add-n : tie.Need-add-n
-add-n c = search needs
-
 returns : tie.Need-returns
 returns c = nothing (head (c .before .before .before .args .count) (c .before .before .before .args .op) (c .before .before .before .args .operands .now)) (c .before .before .before .args .sink .now) (omega arith)
-
-cast-first : tie.Need-cast-first
-cast-first c = search needs
-
-mul-first : tie.Need-mul-first
-mul-first c = search needs
-
-add-first : tie.Need-add-first
-add-first c = search needs
-
-slice-aggregate-put-words : tie.Need-slice-aggregate-put-words
-slice-aggregate-put-words c = search needs
-
-put-words-requires : tie.Need-put-words-requires
-put-words-requires c κs = search needs
-
-sub-put-words : tie.Need-sub-put-words
-sub-put-words c = search needs
-
-part-put-words-start : tie.Need-part-put-words-start
-part-put-words-start c = search needs
-
-part-put-words-end : tie.Need-part-put-words-end
-part-put-words-end c = search needs
-
-put-words-requires-2 : tie.Need-put-words-requires-2
-put-words-requires-2 c κs = search needs
-
-same-length : tie.Need-same-length
-same-length c = search needs
 
 returns-2 : tie.Need-returns-2
 returns-2 c =
@@ -57,17 +24,6 @@ returns-2 c =
 pub put-head-spec : {M : Type 1} → statement M
 put-head-spec =
     tie.close
-    (tie.spec
-    add-n
-    returns
-    cast-first
-    mul-first
-    add-first
-    slice-aggregate-put-words
-    put-words-requires
-    sub-put-words
-    part-put-words-start
-    part-put-words-end
-    put-words-requires-2
-    same-length
+    (tie.spec (λ c. search needs) returns (λ c. search needs) (λ c. search needs) (λ c. search needs) (λ c. search needs)
+    (λ c κs. search needs) (λ c. search needs) (λ c. search needs) (λ c. search needs) (λ c κs. search needs) (λ c. search needs)
     returns-2)

@@ -14,41 +14,11 @@ use Rattle.spirv.proofs.Heads.{as-plain, no-room}
 use Rattle.spirv.proofs.layout.put_name.Statement.{statement}
 use Rattle.spirv.proofs.layout.put_name.Tie as tie
 
-add-at : tie.Need-add-at
-add-at c = search needs
-
-add-n : tie.Need-add-n
-add-n c = search needs
-
-add-n-2 : tie.Need-add-n-2
-add-n-2 c = search needs
-
 returns : tie.Need-returns
 returns c =
     let a = c .before .before .before .before .args in
     let l = packed-length (a .bytes .now) in
     no-room (a .op) (length (a .operands .now) + 1 + (length (a .bytes .now) / 4 + 1)) (a .operands .now ++ packed (a .bytes .now)) (a .sink .now) (simp length-append (omega arith)) (c .if1 .taken)
-
-put-head-requires : tie.Need-put-head-requires
-put-head-requires c κs = search needs
-
-mul-string-to-words : tie.Need-mul-string-to-words
-mul-string-to-words c = search needs
-
-sub-string-to-words : tie.Need-sub-string-to-words
-sub-string-to-words c = search needs
-
-part-string-to-words-start : tie.Need-part-string-to-words-start
-part-string-to-words-start c = search needs
-
-part-string-to-words-end : tie.Need-part-string-to-words-end
-part-string-to-words-end c = search needs
-
-string-to-words-requires : tie.Need-string-to-words-requires
-string-to-words-requires c κs = search needs
-
-same-length : tie.Need-same-length
-same-length c = search needs
 
 returns-2 : tie.Need-returns-2
 returns-2 c =
@@ -64,16 +34,5 @@ returns-2 c =
 pub put-name-spec : {M : Type 1} → statement M
 put-name-spec =
     tie.close
-    (tie.spec
-    add-at
-    add-n
-    add-n-2
-    returns
-    put-head-requires
-    mul-string-to-words
-    sub-string-to-words
-    part-string-to-words-start
-    part-string-to-words-end
-    string-to-words-requires
-    same-length
-    returns-2)
+    (tie.spec (λ c. search needs) (λ c. search needs) (λ c. search needs) returns (λ c κs. search needs) (λ c. search needs)
+    (λ c. search needs) (λ c. search needs) (λ c. search needs) (λ c κs. search needs) (λ c. search needs) returns-2)

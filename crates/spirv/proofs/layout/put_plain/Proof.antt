@@ -8,19 +8,10 @@ use Rattle.spirv.proofs.Heads.{as-plain}
 use Rattle.spirv.proofs.layout.put_plain.Statement.{statement}
 use Rattle.spirv.proofs.layout.put_plain.Tie as tie
 
-add-put-head : tie.Need-add-put-head
-add-put-head c = search needs
-
-put-head-requires : tie.Need-put-head-requires
-put-head-requires c κs = search needs
-
-same-length : tie.Need-same-length
-same-length c = search needs
-
 returns : tie.Need-returns
 returns c =
     let a = c .before .before .before .before .before .before .args in
     as-plain (a .op) (a .operands .now) (length (a .operands .now) + 1) refl (c .before .before .put-head .ensures)
 
 pub put-plain-spec : {M : Type 1} → statement M
-put-plain-spec = tie.close (tie.spec add-put-head put-head-requires same-length returns)
+put-plain-spec = tie.close (tie.spec (λ c. search needs) (λ c κs. search needs) (λ c. search needs) returns)

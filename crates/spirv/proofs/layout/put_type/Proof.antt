@@ -6,16 +6,10 @@ use Rattle.spirv.proofs.Heads.{as-type}
 use Rattle.spirv.proofs.layout.put_type.Statement.{statement}
 use Rattle.spirv.proofs.layout.put_type.Tie as tie
 
-put-plain-requires : tie.Need-put-plain-requires
-put-plain-requires c κs = search needs
-
-same-length : tie.Need-same-length
-same-length c = search needs
-
 returns : tie.Need-returns
 returns c =
     let a = c .before .before .before .before .before .before .args in
     as-type (a .op) (a .operands .now) (omega arith) (c .before .before .put-plain .ensures)
 
 pub put-type-spec : {M : Type 1} → statement M
-put-type-spec = tie.close (tie.spec put-plain-requires same-length returns)
+put-type-spec = tie.close (tie.spec (λ c κs. search needs) (λ c. search needs) returns)

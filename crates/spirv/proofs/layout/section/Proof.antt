@@ -9,29 +9,8 @@ use Rattle.spirv.proofs.Puts.{lent}
 use Rattle.spirv.proofs.layout.section.Statement.{statement}
 use Rattle.spirv.proofs.layout.section.Tie as tie
 
-mul-put-words : tie.Need-mul-put-words
-mul-put-words c = search needs
-
-sub-put-words : tie.Need-sub-put-words
-sub-put-words c = search needs
-
-part-put-words-start : tie.Need-part-put-words-start
-part-put-words-start c = search needs
-
-part-put-words-end : tie.Need-part-put-words-end
-part-put-words-end c = search needs
-
 slice-aggregate-put-words : tie.Need-slice-aggregate-put-words
 slice-aggregate-put-words c = sym (length-take-le (c .before .before .before .before .args .n) (c .before .before .before .before .args .src .now) (omega arith))
-
-put-words-requires : tie.Need-put-words-requires
-put-words-requires c κs = search needs
-
-add-result : tie.Need-add-result
-add-result c = search needs
-
-same-length : tie.Need-same-length
-same-length c = search needs
 
 returns : tie.Need-returns
 returns c =
@@ -42,13 +21,5 @@ returns c =
 pub section-spec : {M : Type 1} → statement M
 section-spec =
     tie.close
-    (tie.spec
-    mul-put-words
-    sub-put-words
-    part-put-words-start
-    part-put-words-end
-    slice-aggregate-put-words
-    put-words-requires
-    add-result
-    same-length
-    returns)
+    (tie.spec (λ c. search needs) (λ c. search needs) (λ c. search needs) (λ c. search needs) slice-aggregate-put-words
+    (λ c κs. search needs) (λ c. search needs) (λ c. search needs) returns)

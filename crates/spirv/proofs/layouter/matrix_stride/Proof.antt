@@ -14,9 +14,6 @@ small : (two : Bool) (width : ℕ) → width < 256 → pick two 2 4 * width < 10
 small true width h = omega arith
 small false width h = omega arith
 
-from-requires : tie.Need-from-requires
-from-requires c κs = search needs
-
 mul-result : tie.Need-mul-result
 mul-result c =
     let a = c .before .before .args in
@@ -27,4 +24,4 @@ returns : tie.Need-returns
 returns c = ap (λ (n : ℕ). n * c .before .before .args .width) (c .before .from .ensures)
 
 pub matrix-stride-spec : {M : Type 1} → statement M
-matrix-stride-spec = tie.close (tie.spec from-requires mul-result returns)
+matrix-stride-spec = tie.close (tie.spec (λ c κs. search needs) mul-result returns)

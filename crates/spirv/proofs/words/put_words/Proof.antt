@@ -18,29 +18,11 @@ abbrev μ-loop : tie.MeasureT-loop
 returns : tie.Need-returns Inv-loop μ-loop
 returns c = nothing (c .before .args .ws .now) (c .before .args .sink .now) (c .if1 .taken)
 
-loop-holds : tie.Need-loop-holds Inv-loop μ-loop
-loop-holds c = (search needs, refl)
-
-mul-sink : tie.Need-mul-sink Inv-loop μ-loop
-mul-sink c = omega arith
-
-shared-slice-read-sink : tie.Need-shared-slice-read-sink Inv-loop μ-loop
-shared-slice-read-sink c = omega arith
-
-mul-sink-2 : tie.Need-mul-sink-2 Inv-loop μ-loop
-mul-sink-2 c = omega arith
-
 slice-write-sink : tie.Need-slice-write-sink Inv-loop μ-loop
 slice-write-sink c =
     let a = c .before .before .before .before .args in
     let l = c .before .before .loop in
     omega (arith, laid-length (a .ws .now) (a .sink .now) (l .sink) (l .i) (l .inv .1) (omega arith) (omega arith))
-
-add-i : tie.Need-add-i Inv-loop μ-loop
-add-i c = omega arith
-
-loop-less : tie.Need-loop-less Inv-loop μ-loop
-loop-less c = omega arith
 
 loop-again : tie.Need-loop-again Inv-loop μ-loop
 loop-again c =
@@ -63,17 +45,5 @@ returns-2 c =
 pub put-words-spec : {M : Type 1} → statement M
 put-words-spec =
     tie.close
-    (tie.spec
-    Inv-loop
-    μ-loop
-    returns
-    loop-holds
-    mul-sink
-    shared-slice-read-sink
-    mul-sink-2
-    slice-write-sink
-    add-i
-    loop-less
-    loop-again
-    same-length
-    returns-2)
+    (tie.spec Inv-loop μ-loop returns (λ c. (search needs, refl)) (λ c. omega arith) (λ c. omega arith) (λ c. omega arith)
+    slice-write-sink (λ c. omega arith) (λ c. omega arith) loop-again same-length returns-2)
