@@ -21,7 +21,8 @@ use Rattle.module_layout.specs.Finished.{declaredAs, Roomy, Finished}
 use Rattle.declarations.specs.declared.Verdict.{Verdict}
 use Rattle.declarations.specs.declared.Verdict.the-variants as verdict
 use Rattle.declarations.specs.declared.Wrapping.{Wrapping}
-use Rattle.declarations.specs.Promise.{wrappingAs}
+use Rattle.declarations.specs.declared.Answers.{Answers}
+use Rattle.declarations.specs.Promise.{wrappingAs, DeclarePromise, WrappedPromise}
 
 -- the scratch is long enough for the sheet
 pub record Lent (s : List ℕ) (nrecords nbytes : ℕ) (T S : List ℕ) : Type 0 where
@@ -61,3 +62,8 @@ abbrev pub WrappedAs : List ℕ → List ℕ → List ℕ → Outcome → ℕ �
 WrappedAs s ts gs (Refused n) index r = wrappingAs r ≡ MeantWrapping.Refused n
 WrappedAs s ts gs (Fit k w) index r = (p : Progress) → p .seen .types ≡ typesFrom s ts (k .types) → p .seen .globals ≡ map (globalFrom s) (take (k .globals) gs)
     → w .idgen .last ≡ p .state .last → wrappingAs r ≡ wrappingOf index (boundTest (fit p))
+
+-- both answers of one reading keep their promises
+pub record Answered (s before : List ℕ) (index : ℕ) (r : Answers) (after : List ℕ) : Type 0 where
+  pub declares : DeclarePromise s before (r .answer) after
+  pub wraps : WrappedPromise s index (r .wrapping)

@@ -7,7 +7,7 @@ ghost use mathlib.Core.Path.{_≡_};
 ghost use Prim.Native.Nat.{_≤_};
 ghost use lib.ListN.{length};
 ghost use Rattle.declarations.specs.Promise.{DeclarePromise, CheckPromise, WrappedPromise};
-ghost use Rattle.declarations.specs.Stages.{Lent, Roomed, Ended, Standing, WrappedAs, verdictFrom};
+ghost use Rattle.declarations.specs.Stages.{Lent, Roomed, Ended, Standing, WrappedAs, Answered, verdictFrom};
 
 // How large a sheet there is scratch for, by class, in bytes, and as many records as so many bytes can hold, or as a sheet may have.
 const TINY: usize = 128;
@@ -34,7 +34,16 @@ pub enum Wrapping {
     Refused(u8),
 }
 
-// ---- Declare
+// What Declare and Wrapped answer, both of one reading of the sheet.
+struct Answers {
+    answer: Answer,
+    wrapping: Wrapping,
+}
+
+// An index that no global has.
+const NO_GLOBAL: usize = 64;
+
+// ---- both, over scratch by the sheet's size
 
 // Tests 15 and 16, and the module, once the records are declared. A refusal writes nothing.
 fn finish(sections: &[u32], o: Outcome, words: &mut [u32]) -> Answer
@@ -46,132 +55,6 @@ fn finish(sections: &[u32], o: Outcome, words: &mut [u32]) -> Answer
         Outcome::Fit(_, w) => module_layout::write_module(words, sections, w),
     }
 }
-
-// The whole, over lent tables and sections.
-fn declare_in(
-    sheet: &[u8],
-    tables: &mut [u64],
-    sections: &mut [u32],
-    nrecords: usize,
-    nbytes: usize,
-    words: &mut [u32],
-) -> Answer
-    requires { ⌜ Lent (now sheet) nrecords nbytes (now tables) (now sections) ⌝ }
-    ensures { λ r. ⌜ DeclarePromise (now (sheet .entry)) (now (words .entry)) r (now (words .exit)) ⌝ }
-{
-    let mut memo = [0u8; 256];
-    let mut remaps = [0u32; 64];
-    let mut types = [0u32; 256];
-    let mut constants = [0u32; 256];
-    let mut globals = [0u32; 64];
-    let o = sheet_writer::write_sheet(
-        tables,
-        sections,
-        &mut memo,
-        &mut remaps,
-        &mut types,
-        &mut constants,
-        &mut globals,
-        sheet,
-        nrecords,
-        nbytes,
-    );
-    finish(sections, o, words)
-}
-
-fn declare_tiny(sheet: &[u8], words: &mut [u32]) -> Answer
-    requires { ⌜ length (now sheet) ≤ 128 ⌝ }
-    ensures { λ r. ⌜ DeclarePromise (now (sheet .entry)) (now (words .entry)) r (now (words .exit)) ⌝ }
-{
-    let mut tables = [0u64; 1160];
-    let mut sections = [0u32; 896];
-    declare_in(sheet, &mut tables, &mut sections, TINY_RECORDS, TINY, words)
-}
-
-fn declare_small(sheet: &[u8], words: &mut [u32]) -> Answer
-    requires { ⌜ length (now sheet) ≤ 2048 ⌝ }
-    ensures { λ r. ⌜ DeclarePromise (now (sheet .entry)) (now (words .entry)) r (now (words .exit)) ⌝ }
-{
-    let mut tables = [0u64; 15872];
-    let mut sections = [0u32; 14336];
-    declare_in(
-        sheet,
-        &mut tables,
-        &mut sections,
-        SMALL_RECORDS,
-        SMALL,
-        words,
-    )
-}
-
-fn declare_large(sheet: &[u8], words: &mut [u32]) -> Answer
-    ensures { λ r. ⌜ DeclarePromise (now (sheet .entry)) (now (words .entry)) r (now (words .exit)) ⌝ }
-{
-    let mut tables = [0u64; 30208];
-    let mut sections = [0u32; 114688];
-    declare_in(
-        sheet,
-        &mut tables,
-        &mut sections,
-        LARGE_RECORDS,
-        LARGE,
-        words,
-    )
-}
-
-// By the sheet's class. It calls itself, so that the compiler lays the scratch of no class out in its frame.
-fn declare_class(class: u8, sheet: &[u8], words: &mut [u32]) -> Answer
-    ensures { λ r. ⌜ DeclarePromise (now (sheet .entry)) (now (words .entry)) r (now (words .exit)) ⌝ }
-{
-    if class == 0 {
-        if sheet.len() <= TINY {
-            return declare_tiny(sheet, words);
-        }
-        return declare_class(1, sheet, words);
-    }
-    if class == 1 {
-        if sheet.len() <= SMALL {
-            return declare_small(sheet, words);
-        }
-        return declare_class(2, sheet, words);
-    }
-    declare_large(sheet, words)
-}
-
-// Declares a sheet into a word buffer.
-pub fn declare(sheet: &[u8], words: &mut [u32]) -> Answer
-    ensures { λ r. ⌜ DeclarePromise (now (sheet .entry)) (now (words .entry)) r (now (words .exit)) ⌝ }
-{
-    declare_class(0, sheet, words)
-}
-
-// ---- Check
-
-// What a Declare into too short a buffer says of the sheet: 16 comes after all of Check.
-fn verdict_of(a: Answer) -> Verdict
-    ensures { λ r. ⌜ r ≡ verdictFrom a ⌝ }
-{
-    match a {
-        Answer::Written(_, _) => Verdict::Fit,
-        Answer::Refused(n) => {
-            if n == 16 {
-                return Verdict::Fit;
-            }
-            Verdict::Refused(n)
-        }
-    }
-}
-
-// Whether a sheet is fit. A module has five words at least, so that for a fit sheet a buffer of one word is too short.
-pub fn check(sheet: &[u8]) -> Verdict
-    ensures { λ r. ⌜ CheckPromise (now (sheet .entry)) r ⌝ }
-{
-    let mut one = [0u32; 1];
-    let a = declare(sheet, &mut one);
-    verdict_of(a)
-}
-
-// ---- Wrapped
 
 // Test 15, 17, and whether the global is wrapped, once the records are read: global i of the first n stands at its place.
 fn wrapping_of(sheet: &[u8], types: &[u32], globals: &[u32], o: Outcome, index: usize) -> Wrapping
@@ -202,16 +85,17 @@ fn wrapping_of(sheet: &[u8], types: &[u32], globals: &[u32], o: Outcome, index: 
 }
 
 // The whole, over lent tables and sections.
-fn wrapped_in(
+fn answers_in(
     sheet: &[u8],
     tables: &mut [u64],
     sections: &mut [u32],
     nrecords: usize,
     nbytes: usize,
+    words: &mut [u32],
     index: usize,
-) -> Wrapping
+) -> Answers
     requires { ⌜ Lent (now sheet) nrecords nbytes (now tables) (now sections) ⌝ }
-    ensures { λ r. ⌜ WrappedPromise (now (sheet .entry)) index r ⌝ }
+    ensures { λ r. ⌜ Answered (now (sheet .entry)) (now (words .entry)) index r (now (words .exit)) ⌝ }
 {
     let mut memo = [0u8; 256];
     let mut remaps = [0u32; 64];
@@ -230,71 +114,119 @@ fn wrapped_in(
         nrecords,
         nbytes,
     );
-    wrapping_of(sheet, &types, &globals, o, index)
+    let wrapping = wrapping_of(sheet, &types, &globals, o, index);
+    let answer = finish(sections, o, words);
+    Answers { answer, wrapping }
 }
 
-fn wrapped_tiny(sheet: &[u8], index: usize) -> Wrapping
+fn answers_tiny(sheet: &[u8], words: &mut [u32], index: usize) -> Answers
     requires { ⌜ length (now sheet) ≤ 128 ⌝ }
-    ensures { λ r. ⌜ WrappedPromise (now (sheet .entry)) index r ⌝ }
+    ensures { λ r. ⌜ Answered (now (sheet .entry)) (now (words .entry)) index r (now (words .exit)) ⌝ }
 {
     let mut tables = [0u64; 1160];
     let mut sections = [0u32; 896];
-    wrapped_in(sheet, &mut tables, &mut sections, TINY_RECORDS, TINY, index)
+    answers_in(
+        sheet,
+        &mut tables,
+        &mut sections,
+        TINY_RECORDS,
+        TINY,
+        words,
+        index,
+    )
 }
 
-fn wrapped_small(sheet: &[u8], index: usize) -> Wrapping
+fn answers_small(sheet: &[u8], words: &mut [u32], index: usize) -> Answers
     requires { ⌜ length (now sheet) ≤ 2048 ⌝ }
-    ensures { λ r. ⌜ WrappedPromise (now (sheet .entry)) index r ⌝ }
+    ensures { λ r. ⌜ Answered (now (sheet .entry)) (now (words .entry)) index r (now (words .exit)) ⌝ }
 {
     let mut tables = [0u64; 15872];
     let mut sections = [0u32; 14336];
-    wrapped_in(
+    answers_in(
         sheet,
         &mut tables,
         &mut sections,
         SMALL_RECORDS,
         SMALL,
+        words,
         index,
     )
 }
 
-fn wrapped_large(sheet: &[u8], index: usize) -> Wrapping
-    ensures { λ r. ⌜ WrappedPromise (now (sheet .entry)) index r ⌝ }
+fn answers_large(sheet: &[u8], words: &mut [u32], index: usize) -> Answers
+    ensures { λ r. ⌜ Answered (now (sheet .entry)) (now (words .entry)) index r (now (words .exit)) ⌝ }
 {
     let mut tables = [0u64; 30208];
     let mut sections = [0u32; 114688];
-    wrapped_in(
+    answers_in(
         sheet,
         &mut tables,
         &mut sections,
         LARGE_RECORDS,
         LARGE,
+        words,
         index,
     )
 }
 
-// By the sheet's class, as Declare.
-fn wrapped_class(class: u8, sheet: &[u8], index: usize) -> Wrapping
-    ensures { λ r. ⌜ WrappedPromise (now (sheet .entry)) index r ⌝ }
+// By the sheet's class. It calls itself, so that the compiler lays the scratch of no class out in its frame.
+fn answers_class(class: u8, sheet: &[u8], words: &mut [u32], index: usize) -> Answers
+    ensures { λ r. ⌜ Answered (now (sheet .entry)) (now (words .entry)) index r (now (words .exit)) ⌝ }
 {
     if class == 0 {
         if sheet.len() <= TINY {
-            return wrapped_tiny(sheet, index);
+            return answers_tiny(sheet, words, index);
         }
-        return wrapped_class(1, sheet, index);
+        return answers_class(1, sheet, words, index);
     }
     if class == 1 {
         if sheet.len() <= SMALL {
-            return wrapped_small(sheet, index);
+            return answers_small(sheet, words, index);
         }
-        return wrapped_class(2, sheet, index);
+        return answers_class(2, sheet, words, index);
     }
-    wrapped_large(sheet, index)
+    answers_large(sheet, words, index)
+}
+
+// ---- the operations
+
+// Declares a sheet into a word buffer.
+pub fn declare(sheet: &[u8], words: &mut [u32]) -> Answer
+    ensures { λ r. ⌜ DeclarePromise (now (sheet .entry)) (now (words .entry)) r (now (words .exit)) ⌝ }
+{
+    let a = answers_class(0, sheet, words, NO_GLOBAL);
+    a.answer
+}
+
+// What a Declare into too short a buffer says of the sheet: 16 comes after all of Check.
+fn verdict_of(a: Answer) -> Verdict
+    ensures { λ r. ⌜ r ≡ verdictFrom a ⌝ }
+{
+    match a {
+        Answer::Written(_, _) => Verdict::Fit,
+        Answer::Refused(n) => {
+            if n == 16 {
+                return Verdict::Fit;
+            }
+            Verdict::Refused(n)
+        }
+    }
+}
+
+// Whether a sheet is fit. A module has five words at least, so that for a fit sheet a buffer of one word is too short.
+pub fn check(sheet: &[u8]) -> Verdict
+    ensures { λ r. ⌜ CheckPromise (now (sheet .entry)) r ⌝ }
+{
+    let mut one = [0u32; 1];
+    let a = declare(sheet, &mut one);
+    verdict_of(a)
 }
 
 // Whether a global of the sheet is wrapped in a struct.
 pub fn wrapped(sheet: &[u8], index: usize) -> Wrapping
     ensures { λ r. ⌜ WrappedPromise (now (sheet .entry)) index r ⌝ }
 {
-    wrapped_class(0, sheet, index)
+    let mut one = [0u32; 1];
+    let a = answers_class(0, sheet, &mut one, index);
+    a.wrapping
 }

@@ -102,27 +102,9 @@ get-type-id-claims t = (key-reads.Asked, key-reads.Learnt, find-type-reads.Asked
 abbrev write-type-declaration-local-claims : ℕ → write-type-declaration-local-lts.Claims
 write-type-declaration-local-claims t = (inner-of-reads.Asked, inner-of-reads.Learnt, put-declaration-reads.Asked, put-declaration-reads.Learnt, get-type-id-below t, get-type-id.Post, length-of-reads.Asked, length-of-reads.Learnt, get-constant-scalar-below t, get-constant-scalar.Post)
 
-get-constant-scalar-form-requires : (t : ℕ) → get-constant-scalar-lts.Need-form-requires (get-constant-scalar-claims t) (get-constant-scalar-at t) get-constant-scalar.Post
-get-constant-scalar-form-requires t c κs = search needs
-
-get-constant-scalar-cast-form : (t : ℕ) → get-constant-scalar-lts.Need-cast-form (get-constant-scalar-claims t) (get-constant-scalar-at t) get-constant-scalar.Post
-get-constant-scalar-cast-form t c = search needs
-
-get-constant-scalar-bits-requires : (t : ℕ) → get-constant-scalar-lts.Need-bits-requires (get-constant-scalar-claims t) (get-constant-scalar-at t) get-constant-scalar.Post
-get-constant-scalar-bits-requires t c κs = search needs
-
 get-constant-scalar-find-literal-requires :
     (t : ℕ) → get-constant-scalar-lts.Need-find-literal-requires (get-constant-scalar-claims t) (get-constant-scalar-at t) get-constant-scalar.Post
 get-constant-scalar-find-literal-requires t c κs = search needs
-
-get-constant-scalar-enum-known-id : (t : ℕ) → get-constant-scalar-lts.Need-enum-known-id (get-constant-scalar-claims t) (get-constant-scalar-at t) get-constant-scalar.Post
-get-constant-scalar-enum-known-id t c = search needs
-
-get-constant-scalar-enum-told : (t : ℕ) → get-constant-scalar-lts.Need-enum-told (get-constant-scalar-claims t) (get-constant-scalar-at t) get-constant-scalar.Post
-get-constant-scalar-enum-told t c = search needs
-
-get-constant-scalar-take-id-requires : (t : ℕ) → get-constant-scalar-lts.Need-take-id-requires (get-constant-scalar-claims t) (get-constant-scalar-at t) get-constant-scalar.Post
-get-constant-scalar-take-id-requires t c κs = search needs
 
 get-constant-scalar-literal-type-requires :
     (t : ℕ) → get-constant-scalar-lts.Need-literal-type-requires (get-constant-scalar-claims t) (get-constant-scalar-at t) get-constant-scalar.Post
@@ -145,40 +127,13 @@ get-constant-scalar-enter-literal-requires t c κs = let e = ap costOf (c .befor
     let g : Grown (costOf (shape (scalar (literalKind (literalOf (c .before .before .before .before .before .before .before .before .before .before .before .before .before .before .before .before .before .before .before .before .before .before .args .l)))))) (c .before .before .before .before .before .before .before .before .before .before .before .before .before .take-id .result .writer) (c .before .before .before .before .before .before .before .before .before .get-type-id .result .writer) = subst (λ (k : Cost). Grown k (c .before .before .before .before .before .before .before .before .before .before .before .before .before .take-id .result .writer) (c .before .before .before .before .before .before .before .before .before .get-type-id .result .writer)) e (c .before .before .before .before .before .before .before .before .before .get-type-id .ensures .grown) in
     omega (arith, c .before .before .before .before .before .before .before .before .before .before .before .before .before .take-id .ensures .grown, g, c .before .before .before .before .before .before .before .before .before .get-type-id .kept, c .before .before .before .write-literal .ensures .grown, c .before .before .before .before .before .before .before .before .before .before .before .before .before .before .before .before .before .before .before .before .before .before .pre .1 .rows, c .before .before .before .before .before .before .before .before .before .before .before .before .before .before .before .before .before .before .before .before .before .before .pre .1 .words, c .before .before .before .before .before .before .before .before .before .before .before .before .before .before .before .before .before .before .before .before .before .before .good)
 
-get-constant-scalar-same-length : (t : ℕ) → get-constant-scalar-lts.Need-same-length (get-constant-scalar-claims t) (get-constant-scalar-at t) get-constant-scalar.Post
-get-constant-scalar-same-length t c = search needs
-
 get-constant-scalar-returns : (t : ℕ) → get-constant-scalar-lts.Need-returns (get-constant-scalar-claims t) (get-constant-scalar-at t) get-constant-scalar.Post
 get-constant-scalar-returns t c = let a = c .before .before .before .before .before .before .before .before .before .args in let x = c .before .before .before .find-literal in
     literal-old (literalOf (a .l)) (c .before .before .before .before .before .before .form .result) (c .before .before .before .before .before .bits .result) (c .before .before .before .before .before .before .form .ensures) (c .before .before .before .before .before .bits .ensures) (a .w) (a .tables .now) (a .sections .now) (x .result) (x .ensures) (c .before .id .given .0 .0) (c .before .id .given .1)
 
-get-constant-scalar-same-length-2 : (t : ℕ) → get-constant-scalar-lts.Need-same-length-2 (get-constant-scalar-claims t) (get-constant-scalar-at t) get-constant-scalar.Post
-get-constant-scalar-same-length-2 t c = search needs
-
-get-constant-scalar-same-length-3 : (t : ℕ) → get-constant-scalar-lts.Need-same-length-3 (get-constant-scalar-claims t) (get-constant-scalar-at t) get-constant-scalar.Post
-get-constant-scalar-same-length-3 t c = search needs
-
 get-constant-scalar-returns-2 : (t : ℕ) → get-constant-scalar-lts.Need-returns-2 (get-constant-scalar-claims t) (get-constant-scalar-at t) get-constant-scalar.Post
 get-constant-scalar-returns-2 t c = let a = c .before .before .before .before .before .before .before .before .before .before .before .before .before .before .before .before .before .before .before .before .before .before .before .before .before .args in let x = c .before .before .before .before .before .before .before .before .before .before .before .before .before .before .before .before .before .before .before .find-literal in let m = c .before .before .before .before .before .before .before .before .before .before .before .before .before .before .before .before .take-id in let f = c .before .before .before .before .before .before .before .before .before .before .before .before .get-type-id in let d = c .before .before .before .before .before .before .write-literal in let u = c .before .before .enter-literal in
     literal-new (literalOf (a .l)) (c .before .before .before .before .before .before .before .before .before .before .before .before .before .before .before .before .before .before .before .before .before .before .form .result) (c .before .before .before .before .before .before .before .before .before .before .before .before .before .before .before .before .before .before .before .before .before .bits .result) (c .before .before .before .before .before .before .before .before .before .before .before .before .before .before .before .before .before .before .before .before .before .before .form .ensures) (c .before .before .before .before .before .before .before .before .before .before .before .before .before .before .before .before .before .before .before .before .before .bits .ensures) (a .w) (a .tables .now) (a .sections .now) (x .result) (x .ensures) (c .before .before .before .before .before .before .before .before .before .before .before .before .before .before .before .before .before .enum-told .given .1) (m .result) (m .ensures) (keyOf (c .before .before .before .before .before .before .before .before .before .before .before .before .before .literal-type .result)) (c .before .before .before .before .before .before .before .before .before .before .before .before .before .literal-type .ensures) (f .result) (f .last .0) (f .last .1 .0) (f .ensures) (d .result) (d .last .0) (d .ensures) (u .result) (u .last .0) (u .ensures)
-
-get-type-id-key-requires : (t : ℕ) → get-type-id-lts.Need-key-requires (get-type-id-claims t) (get-type-id-at t) get-type-id.Post
-get-type-id-key-requires t c κs = search needs
-
-get-type-id-find-type-requires : (t : ℕ) → get-type-id-lts.Need-find-type-requires (get-type-id-claims t) (get-type-id-at t) get-type-id.Post
-get-type-id-find-type-requires t c κs = search needs
-
-get-type-id-enum-known-id : (t : ℕ) → get-type-id-lts.Need-enum-known-id (get-type-id-claims t) (get-type-id-at t) get-type-id.Post
-get-type-id-enum-known-id t c = search needs
-
-get-type-id-enum-told : (t : ℕ) → get-type-id-lts.Need-enum-told (get-type-id-claims t) (get-type-id-at t) get-type-id.Post
-get-type-id-enum-told t c = search needs
-
-get-type-id-enum-told-2 : (t : ℕ) → get-type-id-lts.Need-enum-told-2 (get-type-id-claims t) (get-type-id-at t) get-type-id.Post
-get-type-id-enum-told-2 t c = search needs
-
-get-type-id-enum-known-t : (t : ℕ) → get-type-id-lts.Need-enum-known-t (get-type-id-claims t) (get-type-id-at t) get-type-id.Post
-get-type-id-enum-known-t t c = search needs
 
 get-type-id-take-id-requires : (t : ℕ) → get-type-id-lts.Need-take-id-requires (get-type-id-claims t) (get-type-id-at t) get-type-id.Post
 get-type-id-take-id-requires t c κs = let r = subst (λ (t : LookupType). Room (costOf (keyOf t)) (c .before .before .before .before .before .before .before .before .before .before .args .w) (c .before .before .before .before .before .before .before .before .before .before .args .tables .now) (c .before .before .before .before .before .before .before .before .before .before .args .sections .now)) (c .before .t .given .1) (c .before .before .before .before .before .before .before .before .before .before .pre .1) in
@@ -194,25 +149,13 @@ get-type-id-write-type-declaration-local-requires t c κs = let e = c .before .b
     let r = subst (λ (t : LookupType). Room (costOf (keyOf t)) (c .before .before .before .before .before .before .before .before .before .before .before .before .before .before .before .before .before .args .w) (c .before .before .before .before .before .before .before .before .before .before .before .before .before .before .before .before .before .args .tables .now) (c .before .before .before .before .before .before .before .before .before .before .before .before .before .before .before .before .before .args .sections .now)) e (c .before .before .before .before .before .before .before .before .before .before .before .before .before .before .before .before .before .pre .1) in
     (omega (arith, c .before .before .before .before .before .before .before .before .before .before .before .before .before .before .before .before .before .pre .0, ap (λ (t : LookupType). rank (keyOf t)) e), (subst (λ (t : LookupType). Small (keyOf t)) e (c .before .before .before .before .before .before .before .before .before .before .before .before .before .before .key .ensures .1), omega (arith, c .before .before .before .before .before .before .take-id .ensures .grown, c .before .before .before .before .enter-type .ensures .grown, c .before .before .before .before .enter-type .kept, r .rows, r .words, c .before .before .before .before .before .before .before .before .before .before .before .before .before .before .before .before .before .good)))
 
-get-type-id-same-length : (t : ℕ) → get-type-id-lts.Need-same-length (get-type-id-claims t) (get-type-id-at t) get-type-id.Post
-get-type-id-same-length t c = search needs
-
 get-type-id-returns : (t : ℕ) → get-type-id-lts.Need-returns (get-type-id-claims t) (get-type-id-at t) get-type-id.Post
 get-type-id-returns t c = let a = c .before .before .before .before .before .before .before .before .args in let x = c .before .before .before .find-type in
     type-old (keyOf (a .t)) (c .before .before .before .before .before .key .ensures .1) (c .before .before .before .before .before .key .result) (c .before .before .before .before .before .key .ensures .0) (a .w) (a .tables .now) (a .sections .now) (x .result) (x .ensures) (c .before .id .given .0 .0) (c .before .id .given .1)
 
-get-type-id-same-length-2 : (t : ℕ) → get-type-id-lts.Need-same-length-2 (get-type-id-claims t) (get-type-id-at t) get-type-id.Post
-get-type-id-same-length-2 t c = search needs
-
 get-type-id-returns-2 : (t : ℕ) → get-type-id-lts.Need-returns-2 (get-type-id-claims t) (get-type-id-at t) get-type-id.Post
 get-type-id-returns-2 t c = let a = c .before .before .before .before .before .before .before .before .before .args in let x = c .before .before .before .before .find-type in
     type-absent (keyOf (a .t)) (c .before .before .before .before .before .before .key .ensures .1) (c .before .before .before .before .before .before .key .result) (c .before .before .before .before .before .before .key .ensures .0) (a .w) (a .tables .now) (a .sections .now) (x .result) (x .ensures) (c .before .before .enum-told .given .1) (c .enum-told2 .given .0 .0) (ap keyOf (c .enum-told2 .given .1))
-
-get-type-id-same-length-3 : (t : ℕ) → get-type-id-lts.Need-same-length-3 (get-type-id-claims t) (get-type-id-at t) get-type-id.Post
-get-type-id-same-length-3 t c = search needs
-
-get-type-id-same-length-4 : (t : ℕ) → get-type-id-lts.Need-same-length-4 (get-type-id-claims t) (get-type-id-at t) get-type-id.Post
-get-type-id-same-length-4 t c = search needs
 
 get-type-id-returns-3 : (t : ℕ) → get-type-id-lts.Need-returns-3 (get-type-id-claims t) (get-type-id-at t) get-type-id.Post
 get-type-id-returns-3 t c = let a = c .before .before .before .before .before .before .before .before .before .before .before .before .before .before .before .before .before .before .before .before .before .before .args in let x = c .before .before .before .before .before .before .before .before .before .before .before .before .before .before .before .before .before .find-type in let n = c .before .before .before .before .before .before .before .before .before .before .before .take-id in let v = c .before .before .before .before .before .before .before .before .before .enter-type in let u = c .before .before .before .before .write-type-declaration-local in
@@ -221,9 +164,6 @@ get-type-id-returns-3 t c = let a = c .before .before .before .before .before .b
 write-type-declaration-local-inner-of-requires :
     (t : ℕ) → write-type-declaration-local-lts.Need-inner-of-requires (write-type-declaration-local-claims t) (write-type-declaration-local-at t) write-type-declaration-local.Post
 write-type-declaration-local-inner-of-requires t c κs = search needs
-
-write-type-declaration-local-enum-told : (t : ℕ) → write-type-declaration-local-lts.Need-enum-told (write-type-declaration-local-claims t) (write-type-declaration-local-at t) write-type-declaration-local.Post
-write-type-declaration-local-enum-told t c = search needs
 
 write-type-declaration-local-put-declaration-requires :
     (t : ℕ) → write-type-declaration-local-lts.Need-put-declaration-requires (write-type-declaration-local-claims t) (write-type-declaration-local-at t) write-type-declaration-local.Post
@@ -315,46 +255,22 @@ pub +get-constant-scalar+get-type-id+write-type-declaration-local-spec : {M : Ty
     (λ t. get-constant-scalar-lts.spec (get-constant-scalar-claims t)
     (get-constant-scalar-at t)
     get-constant-scalar.Post
-    (get-constant-scalar-form-requires t)
-    (get-constant-scalar-cast-form t)
-    (get-constant-scalar-bits-requires t)
-    (get-constant-scalar-find-literal-requires t)
-    (get-constant-scalar-enum-known-id t)
-    (get-constant-scalar-enum-told t)
-    (get-constant-scalar-take-id-requires t)
-    (get-constant-scalar-literal-type-requires t)
+    (λ c κs. search needs) (λ c. search needs) (λ c κs. search needs) (get-constant-scalar-find-literal-requires t)
+    (λ c. search needs) (λ c. search needs) (λ c κs. search needs) (get-constant-scalar-literal-type-requires t)
     (get-constant-scalar-get-type-id-requires t)
     (get-constant-scalar-write-literal-requires t)
-    (get-constant-scalar-enter-literal-requires t)
-    (get-constant-scalar-same-length t)
-    (get-constant-scalar-returns t)
-    (get-constant-scalar-same-length-2 t)
-    (get-constant-scalar-same-length-3 t)
-    (get-constant-scalar-returns-2 t))
-    (λ t. get-type-id-lts.spec (get-type-id-claims t)
-    (get-type-id-at t)
+    (get-constant-scalar-enter-literal-requires t) (λ c. search needs) (get-constant-scalar-returns t) (λ c. search needs)
+    (λ c. search needs) (get-constant-scalar-returns-2 t)) (λ t. get-type-id-lts.spec (get-type-id-claims t) (get-type-id-at t)
     get-type-id.Post
-    (get-type-id-key-requires t)
-    (get-type-id-find-type-requires t)
-    (get-type-id-enum-known-id t)
-    (get-type-id-enum-told t)
-    (get-type-id-enum-told-2 t)
-    (get-type-id-enum-known-t t)
+    (λ c κs. search needs) (λ c κs. search needs) (λ c. search needs) (λ c. search needs) (λ c. search needs) (λ c. search needs)
     (get-type-id-take-id-requires t)
     (get-type-id-enter-type-requires t)
-    (get-type-id-write-type-declaration-local-requires t)
-    (get-type-id-same-length t)
-    (get-type-id-returns t)
-    (get-type-id-same-length-2 t)
-    (get-type-id-returns-2 t)
-    (get-type-id-same-length-3 t)
-    (get-type-id-same-length-4 t)
-    (get-type-id-returns-3 t))
+    (get-type-id-write-type-declaration-local-requires t) (λ c. search needs) (get-type-id-returns t) (λ c. search needs)
+    (get-type-id-returns-2 t) (λ c. search needs) (λ c. search needs) (get-type-id-returns-3 t))
     λ t. write-type-declaration-local-lts.spec (write-type-declaration-local-claims t)
     (write-type-declaration-local-at t)
     write-type-declaration-local.Post
-    (write-type-declaration-local-inner-of-requires t)
-    (write-type-declaration-local-enum-told t)
+    (write-type-declaration-local-inner-of-requires t) (λ c. search needs)
     (write-type-declaration-local-put-declaration-requires t)
     (write-type-declaration-local-enum-known-t t)
     (write-type-declaration-local-get-type-id-requires t)

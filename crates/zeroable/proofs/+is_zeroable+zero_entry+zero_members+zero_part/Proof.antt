@@ -100,32 +100,17 @@ zero-members-claims t = (u8-at-reads.Asked, u8-at-reads.Learnt, u16-at-reads.Ask
 abbrev zero-part-claims : ℕ → zero-part-lts.Claims
 zero-part-claims t = (is-zeroable-below t, is-zeroable.Post)
 
-is-zeroable-u8-at-requires : (t : ℕ) → is-zeroable-lts.Need-u8-at-requires (is-zeroable-claims t) (is-zeroable-at t) is-zeroable.Post
-is-zeroable-u8-at-requires t c κs = search needs
-
-is-zeroable-same-length : (t : ℕ) → is-zeroable-lts.Need-same-length (is-zeroable-claims t) (is-zeroable-at t) is-zeroable.Post
-is-zeroable-same-length t c = search needs
-
 is-zeroable-returns : (t : ℕ) → is-zeroable-lts.Need-returns (is-zeroable-claims t) (is-zeroable-at t) is-zeroable.Post
 is-zeroable-returns t c = (sym (said-yes _ _ _ _ (c .before .before .before .before .before .before .pre .1 .1 .1) (c .before .u8-at .ensures) (c .if1 .taken)), c .before .before .before .before .before .before .pre .1 .1 .1)
 
-is-zeroable-same-length-2 : (t : ℕ) → is-zeroable-lts.Need-same-length-2 (is-zeroable-claims t) (is-zeroable-at t) is-zeroable.Post
-is-zeroable-same-length-2 t c = search needs
-
 is-zeroable-returns-2 : (t : ℕ) → is-zeroable-lts.Need-returns-2 (is-zeroable-claims t) (is-zeroable-at t) is-zeroable.Post
 is-zeroable-returns-2 t c = (sym (said-no _ _ _ _ (c .before .before .before .before .before .before .before .pre .1 .1 .1) (c .before .before .u8-at .ensures) (c .if2 .taken)), c .before .before .before .before .before .before .before .pre .1 .1 .1)
-
-is-zeroable-zero-entry-requires : (t : ℕ) → is-zeroable-lts.Need-zero-entry-requires (is-zeroable-claims t) (is-zeroable-at t) is-zeroable.Post
-is-zeroable-zero-entry-requires t c κs = search needs
 
 is-zeroable-keep-requires : (t : ℕ) → is-zeroable-lts.Need-keep-requires (is-zeroable-claims t) (is-zeroable-at t) is-zeroable.Post
 is-zeroable-keep-requires t c κs =
     let st = c .before .before .before .before .before .before .before .before .before .before .before .before in
     let a = st .args in
     has-place (typesFrom (now (a .s)) (now (a .types)) (a .n)) _ (a .i) (c .before .before .before .zero-entry .ensures .1) (rw (count (now (a .s)) (now (a .types)) (a .n) (st .pre .1 .0)) (st .pre .1 .1 .0))
-
-is-zeroable-same-length-3 : (t : ℕ) → is-zeroable-lts.Need-same-length-3 (is-zeroable-claims t) (is-zeroable-at t) is-zeroable.Post
-is-zeroable-same-length-3 t c = search needs
 
 is-zeroable-returns-3 : (t : ℕ) → is-zeroable-lts.Need-returns-3 (is-zeroable-claims t) (is-zeroable-at t) is-zeroable.Post
 is-zeroable-returns-3 t c =
@@ -146,45 +131,12 @@ zero-entry-read t c =
     by-tag (now (a .s)) (now (a .types)) (a .n) (a .i) (st .pre .1 .0) (st .pre .1 .1 .0) (now (c .before .before .before .rest-at .result)) (now (c .before .before .body-of .result)) (c .tag-of .result) (c .before .name-end .result)
     (c .before .before .before .rest-at .ensures) (c .before .before .body-of .ensures) (c .tag-of .ensures) (c .before .name-end .ensures .0)
 
-zero-entry-mul-rest-at : (t : ℕ) → zero-entry-lts.Need-mul-rest-at (zero-entry-claims t) (zero-entry-at t) zero-entry.Post
-zero-entry-mul-rest-at t c = search needs
-
-zero-entry-shared-slice-read-rest-at : (t : ℕ) → zero-entry-lts.Need-shared-slice-read-rest-at (zero-entry-claims t) (zero-entry-at t) zero-entry.Post
-zero-entry-shared-slice-read-rest-at t c = search needs
-
 zero-entry-cast-rest-at : (t : ℕ) → zero-entry-lts.Need-cast-rest-at (zero-entry-claims t) (zero-entry-at t) zero-entry.Post
 zero-entry-cast-rest-at t c = omega (arith, c .shared-slice-known3 .given (c .before .before .before .before .args .i))
-
-zero-entry-rest-at-requires : (t : ℕ) → zero-entry-lts.Need-rest-at-requires (zero-entry-claims t) (zero-entry-at t) zero-entry.Post
-zero-entry-rest-at-requires t c κs = search needs
-
-zero-entry-body-of-requires : (t : ℕ) → zero-entry-lts.Need-body-of-requires (zero-entry-claims t) (zero-entry-at t) zero-entry.Post
-zero-entry-body-of-requires t c κs = search needs
-
-zero-entry-name-end-requires : (t : ℕ) → zero-entry-lts.Need-name-end-requires (zero-entry-claims t) (zero-entry-at t) zero-entry.Post
-zero-entry-name-end-requires t c κs = search needs
-
-zero-entry-tag-of-requires : (t : ℕ) → zero-entry-lts.Need-tag-of-requires (zero-entry-claims t) (zero-entry-at t) zero-entry.Post
-zero-entry-tag-of-requires t c κs = search needs
-
-zero-entry-add-u32-at : (t : ℕ) → zero-entry-lts.Need-add-u32-at (zero-entry-claims t) (zero-entry-at t) zero-entry.Post
-zero-entry-add-u32-at t c = search needs
-
-zero-entry-u32-at-requires : (t : ℕ) → zero-entry-lts.Need-u32-at-requires (zero-entry-claims t) (zero-entry-at t) zero-entry.Post
-zero-entry-u32-at-requires t c κs = search needs
 
 zero-entry-returns : (t : ℕ) → zero-entry-lts.Need-returns (zero-entry-claims t) (zero-entry-at t) zero-entry.Post
 unfolding typeFields
 zero-entry-returns t c = (sym (zero-entry-read t (c .before .before .before) ∙ simp (c .before .before .match .keys5, ← c .before .u32-at .ensures, c .if1 .taken)), c .before .before .before .before .before .before .before .before .before .before .before .pre .1 .1 .1)
-
-zero-entry-u16-at-requires : (t : ℕ) → zero-entry-lts.Need-u16-at-requires (zero-entry-claims t) (zero-entry-at t) zero-entry.Post
-zero-entry-u16-at-requires t c κs = search needs
-
-zero-entry-cast-zero-part : (t : ℕ) → zero-entry-lts.Need-cast-zero-part (zero-entry-claims t) (zero-entry-at t) zero-entry.Post
-zero-entry-cast-zero-part t c = search needs
-
-zero-entry-zero-part-requires : (t : ℕ) → zero-entry-lts.Need-zero-part-requires (zero-entry-claims t) (zero-entry-at t) zero-entry.Post
-zero-entry-zero-part-requires t c κs = search needs
 
 zero-entry-zero-members-requires : (t : ℕ) → zero-entry-lts.Need-zero-members-requires (zero-entry-claims t) (zero-entry-at t) zero-entry.Post
 zero-entry-zero-members-requires t c κs = let p = c .before .before .before .before .before .before .before .before .before .before .pre in (omega arith, (p .1 .0, (p .1 .1 .0, (omega arith, p .1 .1 .1))))
@@ -205,18 +157,12 @@ zero-entry-returns-5 : (t : ℕ) → zero-entry-lts.Need-returns-5 (zero-entry-c
 unfolding typeFields
 zero-entry-returns-5 t c = (sym (zero-entry-read t (c .before) ∙ simp (c .match .keys4)), c .before .before .before .before .before .before .before .before .before .pre .1 .1 .1)
 
-zero-entry-same-length : (t : ℕ) → zero-entry-lts.Need-same-length (zero-entry-claims t) (zero-entry-at t) zero-entry.Post
-zero-entry-same-length t c = search needs
-
 zero-entry-returns-6 : (t : ℕ) → zero-entry-lts.Need-returns-6 (zero-entry-claims t) (zero-entry-at t) zero-entry.Post
 unfolding typeFields
 zero-entry-returns-6 t c =
     let n = c .before .before .before .before .before .before .u32-at .result in
     let f = c .before .before .before .before .before .if1 .left in
     (sym (zero-entry-read t (c .before .before .before .before .before .before .before .before) ∙ simp (c .before .before .before .before .before .before .before .match .keys5, ← c .before .before .before .before .before .before .u32-at .ensures, lt-ltb 0 n (omega arith), ← c .before .before .before .before .u16-at .ensures) (sym (c .before .before .zero-part .ensures .0))), c .before .before .zero-part .ensures .1)
-
-zero-entry-same-length-2 : (t : ℕ) → zero-entry-lts.Need-same-length-2 (zero-entry-claims t) (zero-entry-at t) zero-entry.Post
-zero-entry-same-length-2 t c = search needs
 
 zero-entry-returns-7 : (t : ℕ) → zero-entry-lts.Need-returns-7 (zero-entry-claims t) (zero-entry-at t) zero-entry.Post
 unfolding typeFields
@@ -233,31 +179,10 @@ zero-members-Inv-loop s types n i b at memo₀ p₀ k₀ memo p k = (length memo
 abbrev zero-members-μ-loop : zero-members-lts.MeasureT-loop
 zero-members-μ-loop s types n i b at memo₀ p₀ k₀ memo p k = k
 
-zero-members-add-p : (t : ℕ) → zero-members-lts.Need-add-p (zero-members-claims t) (zero-members-at t) zero-members.Post zero-members-Inv-loop zero-members-μ-loop
-zero-members-add-p t c = search needs
-
-zero-members-add-u8-at : (t : ℕ) → zero-members-lts.Need-add-u8-at (zero-members-claims t) (zero-members-at t) zero-members.Post zero-members-Inv-loop zero-members-μ-loop
-zero-members-add-u8-at t c = search needs
-
-zero-members-u8-at-requires : (t : ℕ) → zero-members-lts.Need-u8-at-requires (zero-members-claims t) (zero-members-at t) zero-members.Post zero-members-Inv-loop zero-members-μ-loop
-zero-members-u8-at-requires t c κs = search needs
-
 zero-members-loop-holds : (t : ℕ) → zero-members-lts.Need-loop-holds (zero-members-claims t) (zero-members-at t) zero-members.Post zero-members-Inv-loop zero-members-μ-loop
 zero-members-loop-holds t c =
     let a = c .before .before .before .before .before .args in
     (refl, (omega arith, (c .before .before .before .before .before .pre .1 .1 .1 .1, ap (zeroMembers (typesFrom (now (a .s)) (now (a .types)) (a .n)) (a .i) (now (a .b)) (a .at + 5)) (sym (c .u8-at .ensures)))))
-
-zero-members-u16-at-requires : (t : ℕ) → zero-members-lts.Need-u16-at-requires (zero-members-claims t) (zero-members-at t) zero-members.Post zero-members-Inv-loop zero-members-μ-loop
-zero-members-u16-at-requires t c κs = search needs
-
-zero-members-cast-zero-part : (t : ℕ) → zero-members-lts.Need-cast-zero-part (zero-members-claims t) (zero-members-at t) zero-members.Post zero-members-Inv-loop zero-members-μ-loop
-zero-members-cast-zero-part t c = search needs
-
-zero-members-zero-part-requires : (t : ℕ) → zero-members-lts.Need-zero-part-requires (zero-members-claims t) (zero-members-at t) zero-members.Post zero-members-Inv-loop zero-members-μ-loop
-zero-members-zero-part-requires t c κs = search needs
-
-zero-members-same-length : (t : ℕ) → zero-members-lts.Need-same-length (zero-members-claims t) (zero-members-at t) zero-members.Post zero-members-Inv-loop zero-members-μ-loop
-zero-members-same-length t c = search needs
 
 zero-members-returns : (t : ℕ) → zero-members-lts.Need-returns (zero-members-claims t) (zero-members-at t) zero-members.Post zero-members-Inv-loop zero-members-μ-loop
 zero-members-returns t c =
@@ -267,18 +192,6 @@ zero-members-returns t c =
     let ts = typesFrom (now (a .s)) (now (a .types)) (a .n) in
     (sym (l .inv .1 .1 .1 ∙ each-no (walk (now (a .b)) (partZeroable ts (a .i))) (l .p) (l .k) (c .before .before .before .before .before .before .loop-test .taken) (simp (← c .before .before .before .before .before .u16-at .ensures) (sym (z .ensures .0) ∙ not-true (z .result) (c .if1 .taken)))), z .ensures .1)
 
-zero-members-add-name-end : (t : ℕ) → zero-members-lts.Need-add-name-end (zero-members-claims t) (zero-members-at t) zero-members.Post zero-members-Inv-loop zero-members-μ-loop
-zero-members-add-name-end t c = search needs
-
-zero-members-name-end-requires : (t : ℕ) → zero-members-lts.Need-name-end-requires (zero-members-claims t) (zero-members-at t) zero-members.Post zero-members-Inv-loop zero-members-μ-loop
-zero-members-name-end-requires t c κs = search needs
-
-zero-members-sub-k : (t : ℕ) → zero-members-lts.Need-sub-k (zero-members-claims t) (zero-members-at t) zero-members.Post zero-members-Inv-loop zero-members-μ-loop
-zero-members-sub-k t c = search needs
-
-zero-members-loop-less : (t : ℕ) → zero-members-lts.Need-loop-less (zero-members-claims t) (zero-members-at t) zero-members.Post zero-members-Inv-loop zero-members-μ-loop
-zero-members-loop-less t c = search needs
-
 zero-members-loop-again : (t : ℕ) → zero-members-lts.Need-loop-again (zero-members-claims t) (zero-members-at t) zero-members.Post zero-members-Inv-loop zero-members-μ-loop
 zero-members-loop-again t c =
     let a = c .before .before .before .before .before .before .before .before .before .before .before .before .before .before .args in
@@ -286,9 +199,6 @@ zero-members-loop-again t c =
     let z = c .before .before .before .before .zero-part in
     let ts = typesFrom (now (a .s)) (now (a .types)) (a .n) in
     (z .kept .1 .1 .1 .1 .1 .0 ∙ l .inv .0, (omega arith, (z .ensures .1, l .inv .1 .1 .1 ∙ each-yes (walk (now (a .b)) (partZeroable ts (a .i))) (l .p) (l .k) (c .before .before .before .before .before .before .before .loop-test .taken) (simp (← c .before .before .before .before .before .before .u16-at .ensures) (sym (z .ensures .0) ∙ not-false (z .result) (c .before .if1 .left))) ∙ cc)))
-
-zero-members-same-length-2 : (t : ℕ) → zero-members-lts.Need-same-length-2 (zero-members-claims t) (zero-members-at t) zero-members.Post zero-members-Inv-loop zero-members-μ-loop
-zero-members-same-length-2 t c = search needs
 
 zero-members-returns-2 : (t : ℕ) → zero-members-lts.Need-returns-2 (zero-members-claims t) (zero-members-at t) zero-members.Post zero-members-Inv-loop zero-members-μ-loop
 zero-members-returns-2 t c =
@@ -299,9 +209,6 @@ zero-members-returns-2 t c =
 
 zero-part-is-zeroable-requires : (t : ℕ) → zero-part-lts.Need-is-zeroable-requires (zero-part-claims t) (zero-part-at t) zero-part.Post
 zero-part-is-zeroable-requires t c κs = (omega arith, (omega arith, (omega arith, c .before .before .before .before .before .pre .1 .1 .1)))
-
-zero-part-same-length : (t : ℕ) → zero-part-lts.Need-same-length (zero-part-claims t) (zero-part-at t) zero-part.Post
-zero-part-same-length t c = search needs
 
 zero-part-returns :
     (t : ℕ) →
@@ -319,67 +226,30 @@ pub +is-zeroable+zero-entry+zero-members+zero-part-spec : {M : Type 1} → state
     close μ-is-zeroable μ-zero-entry μ-zero-members μ-zero-part (λ t. is-zeroable-lts.spec (is-zeroable-claims t)
     (is-zeroable-at t)
     is-zeroable.Post
-    (is-zeroable-u8-at-requires t)
-    (is-zeroable-same-length t)
-    (is-zeroable-returns t)
-    (is-zeroable-same-length-2 t)
-    (is-zeroable-returns-2 t)
-    (is-zeroable-zero-entry-requires t)
-    (is-zeroable-keep-requires t)
-    (is-zeroable-same-length-3 t)
-    (is-zeroable-returns-3 t))
+    (λ c κs. search needs) (λ c. search needs) (is-zeroable-returns t) (λ c. search needs) (is-zeroable-returns-2 t)
+    (λ c κs. search needs) (is-zeroable-keep-requires t) (λ c. search needs) (is-zeroable-returns-3 t))
     (λ t. zero-entry-lts.spec (zero-entry-claims t)
     (zero-entry-at t)
     zero-entry.Post
-    (zero-entry-mul-rest-at t)
-    (zero-entry-shared-slice-read-rest-at t)
-    (zero-entry-cast-rest-at t)
-    (zero-entry-rest-at-requires t)
-    (zero-entry-body-of-requires t)
-    (zero-entry-name-end-requires t)
-    (zero-entry-tag-of-requires t)
-    (zero-entry-add-u32-at t)
-    (zero-entry-u32-at-requires t)
-    (zero-entry-returns t)
-    (zero-entry-u16-at-requires t)
-    (zero-entry-cast-zero-part t)
-    (zero-entry-zero-part-requires t)
-    (zero-entry-zero-members-requires t)
+    (λ c. search needs) (λ c. search needs) (zero-entry-cast-rest-at t) (λ c κs. search needs) (λ c κs. search needs)
+    (λ c κs. search needs) (λ c κs. search needs) (λ c. search needs) (λ c κs. search needs) (zero-entry-returns t)
+    (λ c κs. search needs) (λ c. search needs) (λ c κs. search needs) (zero-entry-zero-members-requires t)
     (zero-entry-returns-2 t)
     (zero-entry-returns-3 t)
     (zero-entry-returns-4 t)
-    (zero-entry-returns-5 t)
-    (zero-entry-same-length t)
-    (zero-entry-returns-6 t)
-    (zero-entry-same-length-2 t)
-    (zero-entry-returns-7 t)
+    (zero-entry-returns-5 t) (λ c. search needs) (zero-entry-returns-6 t) (λ c. search needs) (zero-entry-returns-7 t)
     (zero-entry-returns-8 t))
     (λ t. zero-members-lts.spec (zero-members-claims t)
     (zero-members-at t)
     zero-members.Post
     zero-members-Inv-loop
     zero-members-μ-loop
-    (zero-members-add-p t)
-    (zero-members-add-u8-at t)
-    (zero-members-u8-at-requires t)
-    (zero-members-loop-holds t)
-    (zero-members-u16-at-requires t)
-    (zero-members-cast-zero-part t)
-    (zero-members-zero-part-requires t)
-    (zero-members-same-length t)
-    (zero-members-returns t)
-    (zero-members-add-name-end t)
-    (zero-members-name-end-requires t)
-    (zero-members-sub-k t)
-    (zero-members-loop-less t)
-    (zero-members-loop-again t)
-    (zero-members-same-length-2 t)
+    (λ c. search needs) (λ c. search needs) (λ c κs. search needs) (zero-members-loop-holds t) (λ c κs. search needs)
+    (λ c. search needs) (λ c κs. search needs) (λ c. search needs) (zero-members-returns t) (λ c. search needs)
+    (λ c κs. search needs) (λ c. search needs) (λ c. search needs) (zero-members-loop-again t) (λ c. search needs)
     (zero-members-returns-2 t))
     λ t. zero-part-lts.spec
     (zero-part-claims t)
     (zero-part-at t)
     zero-part.Post
-    (zero-part-is-zeroable-requires t)
-    (zero-part-same-length t)
-    (zero-part-returns t)
-    (zero-part-returns-2 t)
+    (zero-part-is-zeroable-requires t) (λ c. search needs) (zero-part-returns t) (zero-part-returns-2 t)
