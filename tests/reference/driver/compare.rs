@@ -15,6 +15,9 @@ pub const SEED: u64 = 0x0907_0004_1943_0300;
 /// Of a run at scale, where no other is said.
 pub const SCALE_SEED: u64 = 0x0316_0040_9600_1719;
 
+/// The longest of the fresh lines, so that some hundred are computed in seconds.
+const LONGEST_FRESH: usize = 1_200;
+
 /// How many sheets lie between two lines of progress.
 const STRIDE: usize = 50_000;
 
@@ -56,8 +59,18 @@ fn end_of_record(sheet: &[u8], index: usize) -> usize {
     at
 }
 
-/// Every case of a run: families, edges, then `count` random ones.
+/// Every case of a run: the sweep, families, edges, then `count` random ones.
 fn cases(count: usize) -> Vec<Case> {
+    let mut cases = swept();
+    cases.extend(unswept(count));
+    cases
+}
+
+fn swept() -> Vec<Case> {
+    generator::sweep().into_iter().flat_map(|(_, cases)| cases).collect()
+}
+
+fn unswept(count: usize) -> Vec<Case> {
     let mut random = Random(SEED);
     let mut cases = generator::families(&mut random);
     let bound_of = |sheet: &[u8]| match reference::run(sheet) {
@@ -396,6 +409,44 @@ pub fn print_lines(count: usize) -> bool {
     true
 }
 
+/// The stored sweep.
+pub fn print_sweep() -> bool {
+    for (what, cases) in generator::sweep() {
+        println!("# {what}");
+        for case in cases {
+            // The sheet itself comes last, behind its cuts.
+            let Some(one) = asked_of(case).and_then(|mut all| all.pop()) else { return false };
+            println!("{}", line(&one));
+        }
+    }
+    true
+}
+
+/// Random sheets as lines, short ones, from a seed of their own.
+pub fn print_fresh(count: usize, seed: u64) -> bool {
+    if seed == SEED {
+        println!("the seed is that of the stored lines");
+        return false;
+    }
+    println!("# {count} lines from seed {seed:#018x}");
+    let mut random = Random(seed);
+    let mut printed = 0;
+    for n in 0.. {
+        let Some(one) = asked_of(random_case(&mut random, n)).and_then(|mut all| all.pop()) else {
+            return false;
+        };
+        let line = line(&one);
+        if line.len() <= LONGEST_FRESH {
+            println!("{line}");
+            printed += 1;
+        }
+        if printed == count {
+            break;
+        }
+    }
+    true
+}
+
 /// A sheet with what is expected of a program that lends Declare 16,384 words.
 fn line(one: &Asked) -> String {
     let answer = match &one.expected {
@@ -421,8 +472,8 @@ fn store(one: &Asked) {
 /// sheet that shows it, then sheets spread evenly over the families and over random
 /// ones, short ones and a few long ones.
 pub fn print_sample() -> bool {
-    let families = cases(0).len();
-    let mut cases = cases(6_000);
+    let families = unswept(0).len();
+    let mut cases = unswept(6_000);
     let random = cases.split_off(families);
     let (Some(mut families), Some(mut random)) = (asked(cases), asked(random)) else {
         return false;

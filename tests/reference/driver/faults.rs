@@ -93,6 +93,12 @@ faults! {
     NanQuieted: "NaN patterns lose their bits",
     PrivateWithoutNull: "a Private global gets no null",
     WorkgroupAlwaysNull: "a WorkGroup global gets a null without flag bit 1",
+    // Values.
+    BoolWidth0: "a Bool of width 0 is let in",
+    IntegerWidth16: "an integer of width 16 is let in",
+    FloatWidth16: "a Float of width 16 is let in",
+    MatrixWidth16: "a matrix of width 16 is let in",
+    FormatsSwapped: "storage formats 36 and 37 change places",
     // Refusals.
     LimitOnLastId: "the limit is put on the last id instead of the bound",
     NamesTestedUnderFlagOnly: "names are tested under flag bit 0 only",

@@ -21,13 +21,18 @@ fn main() {
         (["scale", _], Some(count)) => compare::scale(count, compare::SCALE_SEED),
         (["scale", _, seed], Some(count)) => match number(seed) {
             Some(seed) => compare::scale(count, seed),
-            None => complain("a seed is a number, decimal or 0x and hexadecimal"),
+            None => complain(NO_SEED),
         },
         (["slips", _], Some(count)) => compare::slips(count),
         (["faults", _], Some(count)) => compare::faults(count),
         (["faults", files @ ..], None) if !files.is_empty() => faults_of_files(files),
         (["lines", _], Some(count)) => compare::print_lines(count),
         (["sample"], None) => compare::print_sample(),
+        (["sweep"], None) => compare::print_sweep(),
+        (["fresh", _, seed], Some(count)) => match number(seed) {
+            Some(seed) => compare::print_fresh(count, seed),
+            None => complain(NO_SEED),
+        },
         (["answer", side @ ("reference" | "second")], None) => answer(side),
         (["answer", side @ "compiled"], None) if compiled::LINKED => answer(side),
         (["replay", files @ ..], None) if !files.is_empty() => replay(files),
@@ -47,11 +52,15 @@ const USAGE: &str = "usage:
   driver faults COUNT              plants each fault and says whether such a run reports it
   driver faults FILE...            the same with the lines of files
   driver lines COUNT               the same sheets with the answers that are expected
-  driver sample                    the lines that tests/vectors stores
+  driver sample                    the lines of tests/vectors/sample.txt
+  driver sweep                     the lines of tests/vectors/sweep.txt
+  driver fresh COUNT SEED          COUNT random sheets, short ones, with their answers
   driver answer reference|second|compiled
                                    answers the sheets on standard input
   driver replay FILE...            holds the answers in files against every side
 The compiled code is a side where the driver was built with it.";
+
+const NO_SEED: &str = "a seed is a number, decimal or 0x and hexadecimal";
 
 fn number(text: &str) -> Option<u64> {
     match text.strip_prefix("0x") {

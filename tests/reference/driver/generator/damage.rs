@@ -1,5 +1,6 @@
 //! Valid sheets with one thing wrong, or with bytes changed.
 
+use super::values::*;
 use super::*;
 
 /// Refusals that a single record or the header brings about; 14 needs a list of
@@ -55,22 +56,23 @@ fn damage(random: &mut Random, number: u8) -> Option<Vec<u8>> {
             cut.resize(length, 0);
             return Some(cut);
         }
-        2 => head[0] = random.pick(&[0, 2, 3, 129, 255]),
-        3 => head[5] |= 1 << (2 + random.below(6)),
+        2 => head[0] = byte_outside(random, &[1]),
+        3 => head[5] = byte_outside(random, &[0, 1, 2, 3]),
         4 => {
             let mut whole = joined(head, &encode(&records));
+            // Past the end: by one, or by any number.
+            let past = 5 + random.pick(&[0, random.0 as u16 % (u16::MAX - 4)]);
             whole.extend(match random.below(4) {
-                0 => vec![0],
+                0 => vec![random.next() as u8],
                 1 => vec![0, 0, 16, 255, 2, 4],
-                2 => vec![0, 5, 16, 255, 2, 4],
+                2 => [&past.to_be_bytes(), &[16, 255, 2, 4][..]].concat(),
                 _ => vec![255, 255],
             });
             return Some(whole);
         }
         5 => {
-            let tags = [0, 3, 15, 29, 30, 47, 48, 63, 69, 95, 97, 255];
             let mut encoded = encode(&records);
-            encoded.insert(at, vec![random.pick(&tags), 0, 0]);
+            encoded.insert(at, vec![byte_outside(random, &TAGS), 0, 0]);
             return Some(joined(head, &encoded));
         }
         6 => {
@@ -123,11 +125,13 @@ fn damage(random: &mut Random, number: u8) -> Option<Vec<u8>> {
             if random.chance(1, 2) {
                 spoil_reference(random, record, 300, 300);
             }
-            if let Record::Constant(Constant::Literal(_)) = record {
-                // An unknown form is 10 whatever follows it.
-                encoded[at][1] = 5 + random.below(251) as u8;
-                encoded[at].truncate(2 + random.below(4));
-                return Some(joined(head, &encoded));
+            if let Record::Constant(Constant::Literal(literal)) = record {
+                if !matches!(literal, Literal::Bool(_)) || random.chance(1, 2) {
+                    // An unknown form is 10 whatever follows it.
+                    encoded[at][1] = byte_outside(random, &[0, 1, 2, 3, 4]);
+                    encoded[at].truncate(2 + random.below(4));
+                    return Some(joined(head, &encoded));
+                }
             }
             spoil_value(random, record)?;
         }
@@ -198,37 +202,40 @@ fn spoil_name(random: &mut Random, record: &mut Record) -> Option<()> {
     Some(())
 }
 
+/// Any byte that is none of the values.
+fn byte_outside(random: &mut Random, values: &[u8]) -> u8 {
+    loop {
+        let byte = random.next() as u8;
+        if !values.contains(&byte) {
+            return byte;
+        }
+    }
+}
+
+/// Gives one field a value, of all that its bytes hold, that the record may not have.
 fn spoil_value(random: &mut Random, record: &mut Record) -> Option<()> {
-    // A number that no small field takes.
-    let big = random.pick(&[40, 41, 128, 255]);
-    let mut spoil = |fields: Vec<&mut u8>| {
-        let which = random.below(fields.len());
-        *fields.into_iter().nth(which).expect("below") = big;
-    };
     match record {
         Record::Remap { size, .. } => *size = 0,
-        Record::Type(t) => match &mut t.inner {
-            Inner::Scalar { kind, width } | Inner::Atomic { kind, width } => {
-                spoil(vec![kind, width])
+        Record::Type(Type { inner: Inner::Struct { members, .. }, .. }) => {
+            let count =
+                MAX_MEMBERS + 1 + random.pick(&[0, random.0 as usize % (255 - MAX_MEMBERS)]);
+            members.resize(count, member(0, 0));
+        }
+        Record::Global(g) if g.bound == 0 && random.chance(1, 2) => {
+            let one = (1 + random.below(255) as u32) << (8 * random.below(4));
+            match random.below(2) {
+                0 => g.group = one,
+                _ => g.binding = one,
             }
-            Inner::Vector { size, kind, width } => spoil(vec![size, kind, width]),
-            Inner::Matrix { columns, rows, width } => spoil(vec![columns, rows, width]),
-            Inner::Pointer { space, access, .. } => spoil(vec![space, access]),
-            Inner::ValuePointer { size, kind, width, space, access } => {
-                spoil(vec![size, kind, width, space, access])
+        }
+        _ => {
+            let mut fields = small_fields(record);
+            if fields.is_empty() {
+                return None;
             }
-            Inner::Image { dim, arrayed, class, first, second } => {
-                spoil(vec![dim, arrayed, class, first, second])
-            }
-            Inner::Sampler { comparison } => spoil(vec![comparison]),
-            Inner::Struct { members, .. } => members.resize(MAX_MEMBERS + 1, member(0, 0)),
-            _ => return None,
-        },
-        Record::Constant(Constant::Splat { size, .. }) => spoil(vec![size]),
-        Record::Global(g) if g.bound == 0 && big == 40 => g.group = 1,
-        Record::Global(g) if g.bound == 0 && big == 41 => g.binding = 1,
-        Record::Global(g) => spoil(vec![&mut g.space, &mut g.access, &mut g.bound]),
-        _ => return None,
+            let field = fields.swap_remove(random.below(fields.len()));
+            *field.byte = byte_outside(random, &field.values);
+        }
     }
     Some(())
 }
@@ -239,7 +246,10 @@ fn spoil_reference(
     types: u16,
     constants: u16,
 ) -> Option<()> {
-    let far = |random: &mut Random, count: u16| random.pick(&[count, count + 1, 65_534]);
+    let far = |random: &mut Random, count: u16| {
+        let any = count + random.below((65_535 - count) as usize) as u16;
+        random.pick(&[count, count + 1, 65_534, any, any])
+    };
     let ty = far(random, types);
     let constant = far(random, constants);
     match record {
@@ -354,9 +364,9 @@ pub fn changed(random: &mut Random) -> Case {
     let mut sheet = valid(random, aimed).encode();
     for _ in 0..1 + random.below(3) {
         let at = random.below(sheet.len());
-        sheet[at] = match random.below(3) {
-            0 => random.next() as u8,
-            1 => sheet[at] ^ (1 << random.below(8)),
+        sheet[at] = match random.below(4) {
+            0 | 1 => random.next() as u8,
+            2 => sheet[at] ^ (1 << random.below(8)),
             _ => random.below(6) as u8,
         };
     }

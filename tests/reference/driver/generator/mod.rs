@@ -4,13 +4,16 @@
 mod damage;
 mod edges;
 mod families;
+mod sweep;
 mod valid;
+mod values;
 
 use crate::sheet::*;
 pub use damage::{changed, damaged, damaged_as, DAMAGES};
 pub use edges::edges;
 pub use families::families;
 use families::*;
+pub use sweep::sweep;
 use valid::*;
 pub use valid::{aim, valid};
 

@@ -36,7 +36,7 @@ impl Second {
             Err(Misfit::LiteralForm) if !self.has(Fault::FormAsLength) => return refusal(10),
             Err(_) => return refusal(8),
         };
-        if self.has(Fault::ValuesBeforeNames) && !values_fit(&record) {
+        if self.has(Fault::ValuesBeforeNames) && !self.values_fit(&record) {
             return refusal(10);
         }
         if !self.names_of(&record).into_iter().all(|name| self.name_fits(name)) {
@@ -45,7 +45,7 @@ impl Second {
         if self.has(Fault::ReferencesBeforeValues) && !self.references_fit(&record) {
             return refusal(11);
         }
-        if !values_fit(&record) {
+        if !self.values_fit(&record) {
             return refusal(10);
         }
         if !self.references_fit(&record) {
@@ -120,42 +120,51 @@ impl Second {
             _ => false,
         }
     }
-}
 
-fn scalar_fits(kind: u8, width: u8) -> bool {
-    match kind {
-        SINT | UINT => matches!(width, 1 | 2 | 4 | 8),
-        FLOAT => matches!(width, 4 | 8),
-        BOOL => width == 1,
-        _ => false,
-    }
-}
-
-fn size_fits(size: u8) -> bool {
-    (2..=4).contains(&size)
-}
-
-fn space_fits(space: u8, access: u8) -> bool {
-    space <= PUSH_CONSTANT && access <= 3 && (access == 0 || space == STORAGE)
-}
-
-/// Test 10, over the whole record.
-fn values_fit(record: &Record) -> bool {
-    match record {
-        Record::Available(_) => true,
-        &Record::Remap { size, .. } => size != 0,
-        Record::Type(t) => match t.inner {
-            Inner::Scalar { kind, width } | Inner::Atomic { kind, width } => {
-                scalar_fits(kind, width)
+    fn scalar_fits(&self, kind: u8, width: u8) -> bool {
+        match kind {
+            SINT | UINT => {
+                matches!(width, 1 | 2 | 4 | 8) || width == 16 && self.has(Fault::IntegerWidth16)
             }
-            Inner::Vector { size, kind, width } => size_fits(size) && scalar_fits(kind, width),
+            FLOAT => float_fits(width) || width == 16 && self.has(Fault::FloatWidth16),
+            BOOL => width == 1 || width == 0 && self.has(Fault::BoolWidth0),
+            _ => false,
+        }
+    }
+
+    /// Test 10, over the whole record.
+    fn values_fit(&self, record: &Record) -> bool {
+        match record {
+            Record::Available(_) => true,
+            &Record::Remap { size, .. } => size != 0,
+            Record::Type(t) => self.inner_fits(&t.inner),
+            Record::Constant(c) => match c {
+                Constant::Literal(Literal::Bool(value)) => *value <= 1,
+                Constant::Splat { size, .. } => size_fits(*size),
+                _ => true,
+            },
+            Record::Global(g) => {
+                space_fits(g.space, g.access)
+                    && g.bound <= 1
+                    && (g.bound == 1 || (g.group == 0 && g.binding == 0))
+            }
+        }
+    }
+
+    fn inner_fits(&self, inner: &Inner) -> bool {
+        match *inner {
+            Inner::Scalar { kind, width } | Inner::Atomic { kind, width } => {
+                self.scalar_fits(kind, width)
+            }
+            Inner::Vector { size, kind, width } => size_fits(size) && self.scalar_fits(kind, width),
             Inner::Matrix { columns, rows, width } => {
-                size_fits(columns) && size_fits(rows) && scalar_fits(FLOAT, width)
+                let wide = width == 16 && self.has(Fault::MatrixWidth16);
+                size_fits(columns) && size_fits(rows) && (float_fits(width) || wide)
             }
             Inner::Pointer { space, access, .. } => space_fits(space, access),
             Inner::ValuePointer { size, kind, width, space, access } => {
                 (size == 0 || size_fits(size))
-                    && scalar_fits(kind, width)
+                    && self.scalar_fits(kind, width)
                     && space_fits(space, access)
             }
             Inner::Array { .. } | Inner::BindingArray { .. } => true,
@@ -172,18 +181,20 @@ fn values_fit(record: &Record) -> bool {
             }
             Inner::Sampler { comparison } => comparison <= 1,
             Inner::AccelerationStructure | Inner::RayQuery => true,
-        },
-        Record::Constant(c) => match c {
-            Constant::Literal(Literal::Bool(value)) => *value <= 1,
-            Constant::Splat { size, .. } => size_fits(*size),
-            _ => true,
-        },
-        Record::Global(g) => {
-            space_fits(g.space, g.access)
-                && g.bound <= 1
-                && (g.bound == 1 || (g.group == 0 && g.binding == 0))
         }
     }
+}
+
+fn float_fits(width: u8) -> bool {
+    matches!(width, 4 | 8)
+}
+
+fn size_fits(size: u8) -> bool {
+    (2..=4).contains(&size)
+}
+
+fn space_fits(space: u8, access: u8) -> bool {
+    space <= PUSH_CONSTANT && access <= 3 && (access == 0 || space == STORAGE)
 }
 
 impl Second {

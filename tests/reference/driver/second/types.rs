@@ -44,7 +44,7 @@ impl Second {
                 let (kind, format) = match class {
                     SAMPLED => (first, 0),
                     DEPTH => (FLOAT, 0),
-                    _ => (FORMATS[first as usize].0, FORMATS[first as usize].1),
+                    _ => self.format(first),
                 };
                 Shape::Image {
                     kind,
@@ -61,6 +61,16 @@ impl Second {
             Inner::RayQuery => Shape::RayQuery,
             Inner::Array { .. } | Inner::Struct { .. } | Inner::BindingArray { .. } => return None,
         })
+    }
+
+    /// A storage format's sampled kind and its number.
+    fn format(&self, format: u8) -> (u8, u8) {
+        let meant = match format {
+            36 | 37 if self.has(Fault::FormatsSwapped) => 36 + 37 - format,
+            _ => format,
+        };
+        let (kind, number, _) = FORMATS[meant as usize];
+        (kind, number)
     }
 
     pub(super) fn class_of(&self, space: u8) -> u8 {
