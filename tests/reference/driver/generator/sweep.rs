@@ -249,7 +249,8 @@ fn names_and_counts(s: &mut Sweep) {
 }
 
 fn plain_types(s: &mut Sweep) {
-    // Every field of a float, and the width of the other kinds.
+    // Every field of a float, the width of the other kinds, and the kind where Bool's
+    // width stands, which no other kind's rule would refuse first.
     type Made = fn(u8, u8) -> Inner;
     let made: [Made; 4] = [
         |kind, width| Inner::Scalar { kind, width },
@@ -259,9 +260,10 @@ fn plain_types(s: &mut Sweep) {
     ];
     for make in made {
         s.fields(&[], &unnamed(make(FLOAT, 4)), &[]);
-        for (kind, width) in [(SINT, 4), (UINT, 4), (BOOL, 1)] {
+        for (kind, width) in [(SINT, 4), (UINT, 4)] {
             s.fields(&[], &unnamed(make(kind, width)), &["width"]);
         }
+        s.fields(&[], &unnamed(make(BOOL, 1)), &["kind", "width"]);
     }
     s.fields(&[], &unnamed(Inner::Matrix { columns: 2, rows: 3, width: 4 }), &[]);
     s.fields(&[], &unnamed(Inner::Sampler { comparison: 0 }), &[]);
