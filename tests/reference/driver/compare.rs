@@ -16,7 +16,7 @@ pub const SEED: u64 = 0x0907_0004_1943_0300;
 pub const SCALE_SEED: u64 = 0x0316_0040_9600_1719;
 
 /// The longest of the fresh lines, so that some hundred are computed in seconds.
-const LONGEST_FRESH: usize = 1_200;
+const LONGEST_FRESH: usize = 800;
 
 /// How many sheets lie between two lines of progress.
 const STRIDE: usize = 50_000;

@@ -202,10 +202,16 @@ fn spoil_name(random: &mut Random, record: &mut Record) -> Option<()> {
     Some(())
 }
 
-/// Any byte that is none of the values.
+/// Any byte that is none of the values, half of the time one right beside them.
 fn byte_outside(random: &mut Random, values: &[u8]) -> u8 {
     loop {
-        let byte = random.next() as u8;
+        let near = random.pick(values);
+        let byte = match random.below(6) {
+            0 => near.wrapping_add(1),
+            1 => near.wrapping_sub(1),
+            2 => near ^ (1 << random.below(8)),
+            _ => random.next() as u8,
+        };
         if !values.contains(&byte) {
             return byte;
         }
