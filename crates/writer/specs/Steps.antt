@@ -149,6 +149,11 @@ pub record Puts (b : Section) (n : ℕ) (i : Instruction) (w : Writer) (S : List
   pub grown : Grown (wordsIn b n) w v
   pub held : (T : List ℕ) (s : State) → Held w T S s → Held v T S′ (addTo b i s)
 
+-- a change of the state that touches the sections alone: what is held stays held whatever the tables are
+pub record Added (c : Cost) (f : State → State) (w : Writer) (S : List ℕ) (v : Writer) (S′ : List ℕ) : Type 0 where
+  pub grown : Grown c w v
+  pub held : (T : List ℕ) (s : State) → Held w T S s → Held v T S′ (f s)
+
 -- a word behind the declarations in use, at place k of an instruction that is not whole yet: what is held stays held
 pub record Pending (k x : ℕ) (w : Writer) (S S′ : List ℕ) : Type 0 where
   pub still : (T : List ℕ) (s : State) → Held w T S s → Held w T S′ s

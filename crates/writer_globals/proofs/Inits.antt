@@ -20,10 +20,10 @@ use Rattle.writer.specs.Rows.{low}
 use Rattle.writer.specs.Regions.{declarations}
 use Rattle.writer.specs.Cost.{nothing, declaring}
 use Rattle.writer.specs.Held.{Held}
-use Rattle.writer.specs.Steps.{GotBy, ValueAt, Spelt, Adds}
+use Rattle.writer.specs.Steps.{GotBy, ValueAt, Spelt, Adds, Added}
 use Rattle.finding.specs.Costs.{nullCost}
 use Rattle.writer_globals.specs.declared.Inited.{Inited}
-use Rattle.writer_globals.specs.Globals.{Added, initIn, Initialised}
+use Rattle.writer_globals.specs.Globals.{initIn, Initialised}
 use Rattle.writer_globals.proofs.Rooms.{grown-still, tail-same, tail-then}
 use Rattle.writer_globals.proofs.Notes.{low-small}
 

@@ -11,13 +11,13 @@ use lib.Dec.{eqb}
 use lib.ListN.{length, take, drop, length-take}
 use Rattle.definition.specs.Choice.{pick}
 use Rattle.definition.specs.Bytes.{u8At, nameAt, nameEnd}
-use Rattle.definition.specs.Numbers.{DecorationColMajor, DecorationMatrixStride, DecorationBinding, DecorationDescriptorSet}
-use Rattle.definition.specs.Instructions.{Instruction, words, plain, name, decorate, memberDecorate}
+use Rattle.definition.specs.Numbers.{DecorationBinding, DecorationDescriptorSet}
+use Rattle.definition.specs.Instructions.{Instruction, words, plain, name, decorate}
 use Rattle.definition.specs.Sheet.{TypeEntry}
 use Rattle.definition.specs.Shapes.{entry}
 use Rattle.definition.specs.State.{State, annotate}
 use Rattle.definition.specs.Finding.{find}
-use Rattle.definition.specs.Rules.{innerAt, annotateIf, labelIf, strideMember, imageAccess, accessOf, decorateAccess, blockBase, block}
+use Rattle.definition.specs.Rules.{innerAt, annotateIf, labelIf, imageAccess, accessOf, decorateAccess, blockBase, block}
 use Rattle.kinds.specs.Numbers.{spaceNumber, spaceAccess}
 use Rattle.entries.specs.Globals.{globalOf}
 use Rattle.entries.specs.declared.globals.Binding.{Binding}
@@ -30,8 +30,8 @@ use Rattle.writer.specs.Rows.{low}
 use Rattle.writer.specs.Regions.{names, annotations}
 use Rattle.writer.specs.Cost.{Cost, nothing, annotating, naming, _⊕_}
 use Rattle.writer.specs.Held.{Held}
-use Rattle.writer.specs.Steps.{Kept, GotBy, Spelt, Adds, Puts}
-use Rattle.writer_globals.specs.Globals.{Added, bindingDecorated}
+use Rattle.writer.specs.Steps.{Kept, GotBy, Spelt, Adds, Puts, Added}
+use Rattle.writer_globals.specs.Globals.{bindingDecorated}
 use Rattle.writer_globals.proofs.Rooms.{grown-still, _▹_, tail-same, tail-still, tail-then}
 
 -- ---- steps
@@ -96,19 +96,6 @@ bound id r hg hb ex p q b e =
     added-as (λ s. ap (λ (b : Binding). bindingDecorated b id s) (sym e))
     (added-then (put-one p (decorate id DecorationDescriptorSet (r .group ∷ [])) (λ j. 262215 ∷ a j ∷ 34 ∷ m j ∷ []))
     (put-one q (decorate id DecorationBinding (r .binding ∷ [])) (λ j. 262215 ∷ a j ∷ 33 ∷ n j ∷ [])))
-
--- ---- a wrapper's column stride
-
-pub strided : (id d : ℕ) → d < 4294967296 → {x : ℕ} → x ≡ low id → {w v u : Writer} {S S₁ S₂ : List ℕ}
-    → Adds annotations 4 (words (plain 72 (x ∷ 0 ∷ 5 ∷ []))) w S v S₁ → Adds annotations 5 (words (plain 72 (x ∷ 0 ∷ 7 ∷ d ∷ []))) v S₁ u S₂
-    → (o : Option ℕ) → o ≡ some d → Added (annotating 9) (strideMember o id 0) w S u S₂
-unfolding words
-strided id d hd ex p q o e =
-    let a = sym ex in
-    let n = low-small d hd in
-    added-as (λ s. ap (λ (o : Option ℕ). strideMember o id 0 s) (sym e))
-    (added-then (put-one p (memberDecorate id 0 DecorationColMajor []) (λ j. 262216 ∷ a j ∷ 0 ∷ 5 ∷ []))
-    (put-one q (memberDecorate id 0 DecorationMatrixStride (d ∷ [])) (λ j. 327752 ∷ a j ∷ 0 ∷ 7 ∷ n j ∷ [])))
 
 -- ---- the name
 

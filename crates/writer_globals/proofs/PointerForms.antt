@@ -31,13 +31,13 @@ use Rattle.writer.specs.Rows.{low}
 use Rattle.writer.specs.Regions.{annotations, declarations}
 use Rattle.writer.specs.Cost.{Cost, nothing, anId, annotating, declaring}
 use Rattle.writer.specs.Held.{Held, Grown, Room, RoomFor}
-use Rattle.writer.specs.Steps.{GotBy, Took, Adds}
+use Rattle.writer.specs.Steps.{GotBy, Took, Adds, Added}
 use Rattle.finding.proofs.Prices.{AtMost}
 use Rattle.finding.proofs.Ways.{taken}
 use Rattle.writer_globals.specs.Costs.{wrapperCost}
 use Rattle.writer_globals.specs.declared.pointers.PointerForm.{PointerForm}
 use Rattle.writer_globals.specs.declared.pointers.PointerForm.the-variants.{Direct, Wrapped, Remapped}
-use Rattle.writer_globals.specs.Globals.{Added, wrapIn, pointerBy, sizeFor, pointerFormIn}
+use Rattle.writer_globals.specs.Globals.{wrapIn, pointerBy, sizeFor, pointerFormIn}
 use Rattle.writer_globals.proofs.Rooms.{_▹_, grown-within, words-left, room-left, tail-still, tail-then}
 use Rattle.writer_globals.proofs.Notes.{low-small}
 

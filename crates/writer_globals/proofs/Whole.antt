@@ -24,11 +24,11 @@ use Rattle.writer.specs.declared.Writer.{Writer}
 use Rattle.writer.specs.declared.Taken.{Taken}
 use Rattle.writer.specs.Cost.{anId, naming, annotating, declaring, recordCost}
 use Rattle.writer.specs.Held.{Held, Room, RoomFor, Grown}
-use Rattle.writer.specs.Steps.{Kept, GotBy, Took}
+use Rattle.writer.specs.Steps.{Kept, GotBy, Took, Added}
 use Rattle.finding.specs.Costs.{nullCost}
 use Rattle.finding.proofs.Prices.{AtMost}
 use Rattle.writer_globals.specs.Costs.{pointerCost, globalCost}
-use Rattle.writer_globals.specs.Globals.{Added, pointerBy, pointerFormIn, bindingDecorated, initIn, Initialised, GlobalKept}
+use Rattle.writer_globals.specs.Globals.{pointerBy, pointerFormIn, bindingDecorated, initIn, Initialised, GlobalKept}
 use Rattle.writer_globals.specs.Records.{globalIn, Tested}
 use Rattle.writer_globals.specs.declared.pointers.PointerForm.{PointerForm}
 use Rattle.writer_globals.specs.declared.Inited.{Inited}

@@ -28,11 +28,6 @@ use Rattle.writer_globals.specs.declared.pointers.PointerForm.{PointerFo
 use Rattle.writer_globals.specs.declared.pointers.PointerForm.the-variants.{Direct, Wrapped, Remapped}
 use Rattle.writer_globals.specs.declared.Inited.{Inited}
 
--- a change of the state that touches the sections alone
-pub record Added (c : Cost) (f : State → State) (w : Writer) (S : List ℕ) (v : Writer) (S′ : List ℕ) : Type 0 where
-  pub grown : Grown c w v
-  pub held : (T : List ℕ) (s : State) → Held w T S s → Held v T S′ (f s)
-
 -- ---- the pointer
 
 -- the wrapper of a type, by its column stride

@@ -31,8 +31,8 @@ ghost use Rattle.entries.specs.Globals.{globalOf};
 ghost use Rattle.type_facts.specs.Facets.{byteOf, indexOf};
 ghost use Rattle.writer.specs.Cost.{annotating, naming};
 ghost use Rattle.writer.specs.Held.{RoomFor, Room};
-ghost use Rattle.writer.specs.Steps.{Kept};
-ghost use Rattle.writer_globals.specs.Globals.{Added, bindingDecorated};
+ghost use Rattle.writer.specs.Steps.{Kept, Added};
+ghost use Rattle.writer_globals.specs.Globals.{bindingDecorated};
 
 // A decoration without operands, where it is asked for.
 fn decorate_if(sections: &mut [u32], w: Writer, there: bool, id: u64, decoration: u32) -> Writer

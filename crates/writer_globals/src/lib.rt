@@ -36,9 +36,10 @@ ghost use Rattle.records.specs.Places.{remapFrom, typesFrom};
 ghost use Rattle.entries.specs.Globals.{globalOf, constantOf};
 ghost use Rattle.writer.specs.Cost.{declaring, recordCost};
 ghost use Rattle.writer.specs.Held.{RoomFor, Room};
+ghost use Rattle.writer.specs.Steps.{Added};
 ghost use Rattle.finding.specs.Costs.{nullCost};
 ghost use Rattle.writer_globals.specs.Costs.{globalCost};
-ghost use Rattle.writer_globals.specs.Globals.{Added, initIn, Initialised, GlobalKept};
+ghost use Rattle.writer_globals.specs.Globals.{initIn, Initialised, GlobalKept};
 ghost use Rattle.writer_globals.specs.Records.{globalIn, Tested};
 
 // Spaces, as document 01 numbers them.

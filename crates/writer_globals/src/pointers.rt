@@ -5,8 +5,6 @@ use lookup::LocalType;
 use lookup::LookupType;
 use spirv::helpers::map_storage_class;
 use spirv::instructions::DECORATION_BLOCK;
-use spirv::instructions::DECORATION_COL_MAJOR;
-use spirv::instructions::DECORATION_MATRIX_STRIDE;
 use spirv::instructions::DECORATION_OFFSET;
 use spirv::instructions::OP_DECORATE;
 use spirv::instructions::OP_MEMBER_DECORATE;
@@ -17,20 +15,20 @@ use type_facts::Number;
 use writer::Taken;
 use writer::Writer;
 use writer::low_word;
+use writer_types::structs::stride_member;
 ghost use mathlib.Core.Path.{_≡_};
 ghost use mathlib.Core.List.{List, map};
 ghost use Prim.Native.Nat.{ℕ, _≤_};
 ghost use lib.ListN.{length, take};
 ghost use Rattle.definition.specs.State.{State};
-ghost use Rattle.definition.specs.Rules.{strideMember, pointerOf};
+ghost use Rattle.definition.specs.Rules.{pointerOf};
 ghost use Rattle.records.specs.Places.{remapFrom, typesFrom};
 ghost use Rattle.entries.specs.Globals.{globalOf};
 ghost use Rattle.type_facts.specs.Facets.{numberOf};
-ghost use Rattle.writer.specs.Cost.{annotating};
-ghost use Rattle.writer.specs.Held.{RoomFor, Room};
+ghost use Rattle.writer.specs.Held.{Room};
 ghost use Rattle.writer.specs.Steps.{GotBy};
 ghost use Rattle.writer_globals.specs.Costs.{wrapperCost, pointerCost};
-ghost use Rattle.writer_globals.specs.Globals.{Added, wrapIn, pointerBy, pointerFormIn, sizeFor};
+ghost use Rattle.writer_globals.specs.Globals.{wrapIn, pointerBy, pointerFormIn, sizeFor};
 
 // The form of a global's pointer: to its type, to a wrapper, or to a remapped array.
 pub enum PointerForm {
@@ -40,31 +38,6 @@ pub enum PointerForm {
 }
 
 // ---- the wrapper
-
-// The column stride of a wrapper's member.
-fn stride_member(sections: &mut [u32], w: Writer, id: u64, stride: Number) -> Writer
-    requires { ⌜ RoomFor (annotating 9) w (now sections) ⌝ }
-    ensures { λ r. ⌜ Added (annotating 9) (strideMember (numberOf stride) id 0) w (now (sections .entry)) r (now (sections .exit)) ⌝ }
-{
-    match stride {
-        Number::Nothing => w,
-        Number::Of(x) => {
-            let t = low_word(id);
-            let a = writer::annotate(
-                sections,
-                w,
-                OP_MEMBER_DECORATE,
-                &[t, 0, DECORATION_COL_MAJOR],
-            );
-            writer::annotate(
-                sections,
-                a,
-                OP_MEMBER_DECORATE,
-                &[t, 0, DECORATION_MATRIX_STRIDE, x],
-            )
-        }
-    }
-}
 
 // A struct around a type, and the pointer to it. Each global has its own, so neither is looked for or entered.
 fn write_wrapper(
@@ -88,7 +61,7 @@ fn write_wrapper(
         OP_MEMBER_DECORATE,
         &[x, 0, DECORATION_OFFSET, 0],
     );
-    let c = stride_member(sections, b, id, stride);
+    let c = stride_member(sections, b, id, 0, stride);
     let f = finding::get_type_id(tables, sections, c, LookupType::Handle(ty));
     let d = writer::declare(sections, f.writer, OP_TYPE_STRUCT, &[x, low_word(f.id)]);
     let p = writer::take_id(d);

@@ -22,8 +22,8 @@ use Rattle.writer.specs.Rows.{low}
 use Rattle.writer.specs.Regions.{annotations}
 use Rattle.writer.specs.Cost.{naming, annotating, _⊕_}
 use Rattle.writer.specs.Held.{Held, Grown}
-use Rattle.writer.specs.Steps.{Kept, Adds}
-use Rattle.writer_types.specs.Members.{Added, memberAt, decorated, StructPut}
+use Rattle.writer.specs.Steps.{Kept, Adds, Added}
+use Rattle.writer_types.specs.Members.{memberAt, decorated, StructPut}
 use Rattle.writer_types.specs.Costs.{nameLength, memberCost, weight, membersCost, structCost}
 use Rattle.writer_types.proofs.Walking.{members-length, split, none-left, weight-split}
 use Rattle.writer_types.proofs.Named.{still}

@@ -16,8 +16,7 @@ use Rattle.writer.specs.declared.Writer.{Writer}
 use Rattle.writer.specs.Regions.{names}
 use Rattle.writer.specs.Cost.{Cost, naming}
 use Rattle.writer.specs.Held.{RoomFor}
-use Rattle.writer.specs.Steps.{Puts}
-use Rattle.writer_types.specs.Members.{Added}
+use Rattle.writer.specs.Steps.{Puts, Added}
 use Rattle.writer_types.specs.Costs.{nameLength}
 
 -- what adds nothing is within any cost

@@ -28,11 +28,10 @@ use Rattle.writer.specs.declared.Writer.{Writer}
 use Rattle.writer.specs.declared.Taken.{Taken}
 use Rattle.writer.specs.Cost.{naming, nothing, recordCost}
 use Rattle.writer.specs.Held.{Held, Room}
-use Rattle.writer.specs.Steps.{Kept, GotBy, Took, EnteredType}
+use Rattle.writer.specs.Steps.{Kept, GotBy, Took, EnteredType, Added}
 use Rattle.finding.specs.Costs.{costOf}
 use Rattle.finding.proofs.Prices.{AtMost}
 use Rattle.finding.proofs.Ways.{taken}
-use Rattle.writer_types.specs.Members.{Added}
 use Rattle.writer_types.specs.Inner.{innerIn, innerDeclared}
 use Rattle.writer_types.specs.Costs.{nameLength, structCost, aggregateCost, shapedCost, innerCost}
 use Rattle.writer_types.specs.Tested.{Tested}

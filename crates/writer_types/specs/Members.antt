@@ -11,13 +11,8 @@ use Rattle.definition.specs.Shapes.{entry}
 use Rattle.definition.specs.State.{State, declare, idOf}
 use Rattle.definition.specs.Rules.{decorateMember}
 use Rattle.writer.specs.declared.Writer.{Writer}
-use Rattle.writer.specs.Cost.{Cost, declaring}
+use Rattle.writer.specs.Cost.{declaring}
 use Rattle.writer.specs.Held.{Held, Grown}
-
--- a change of the sections alone: what is held stays held whatever the tables are
-pub record Added (c : Cost) (f : State → State) (w : Writer) (S : List ℕ) (v : Writer) (S′ : List ℕ) : Type 0 where
-  pub grown : Grown c w v
-  pub held : (T : List ℕ) (s : State) → Held w T S s → Held v T S′ (f s)
 
 -- the member that stands at a place of a body
 abbrev pub memberAt : List ℕ → ℕ → Member

@@ -2,7 +2,7 @@
 // entry is read again from the sheet.
 mod aggregates;
 mod names;
-mod structs;
+pub mod structs;
 
 use entries::types::TypeInner;
 use locals::Made;

@@ -11,7 +11,7 @@ ghost use Rattle.definition.specs.Tests.{present};
 ghost use Rattle.definition.specs.Rules.{labelIf};
 ghost use Rattle.writer.specs.Cost.{naming};
 ghost use Rattle.writer.specs.Held.{RoomFor};
-ghost use Rattle.writer_types.specs.Members.{Added};
+ghost use Rattle.writer.specs.Steps.{Added};
 ghost use Rattle.writer_types.specs.Costs.{nameLength};
 
 // Whether there is a name at p that is to be written.

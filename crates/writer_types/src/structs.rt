@@ -22,12 +22,12 @@ ghost use Rattle.records.specs.Places.{typesFrom};
 ghost use Rattle.type_facts.specs.Facets.{numberOf};
 ghost use Rattle.writer.specs.Cost.{annotating};
 ghost use Rattle.writer.specs.Held.{RoomFor, Room};
-ghost use Rattle.writer.specs.Steps.{Kept};
-ghost use Rattle.writer_types.specs.Members.{Added, memberAt, decorated};
+ghost use Rattle.writer.specs.Steps.{Kept, Added};
+ghost use Rattle.writer_types.specs.Members.{memberAt, decorated};
 ghost use Rattle.writer_types.specs.Costs.{memberCost, membersCost, structCost};
 
-// How the columns of member i lie, where it has columns.
-fn stride_member(sections: &mut [u32], w: Writer, id: u64, i: u32, x: Number) -> Writer
+// How the columns of member i lie, where it has columns: of a struct, and of a global's wrapper.
+pub fn stride_member(sections: &mut [u32], w: Writer, id: u64, i: u32, x: Number) -> Writer
     requires { ⌜ RoomFor (annotating 9) w (now sections) ⌝ }
     ensures { λ r. ⌜ Added (annotating 9) (strideMember (numberOf x) id i) w (now (sections .entry)) r (now (sections .exit)) ⌝ }
 {
