@@ -20,26 +20,16 @@ ghost use Rattle.records.specs.Places.{availableFrom};
 ghost use Rattle.entries.specs.Types.{innerOf};
 ghost use Rattle.lookup.specs.Local.{shapeOf, asList};
 
-// The 32-bit number at a place of a body that has it whole. A sheet may ask hundreds of times for one of thousands of numbers, so
-// this reads without a test for the end.
-fn number_at(body: &[u8], at: usize) -> u32
-    requires { ⌜ at + 4 ≤ length (now body) ⌝ }
-    ensures { λ r. ⌜ r ≡ u32At (now (body .entry)) at ⌝ }
-{
-    let high = 256 * (body[at] as u32) + body[at + 1] as u32;
-    let low = 256 * (body[at + 2] as u32) + body[at + 3] as u32;
-    65536 * high + low
-}
-
 // Whether a capability is among the 32-bit numbers of a body. As many are read as the body has whole; bytes behind them, which
-// test 8 refuses, are not.
+// test 8 refuses, are not. A sheet may ask hundreds of times for one of thousands of numbers, so they are read without a test for
+// the end.
 fn is_listed(body: &[u8], cap: u32) -> bool
     ensures { λ r. ⌜ r ≡ among cap (availableFields (now (body .entry)) .value) ⌝ }
 {
     let mut at = 0;
     let mut left = body.len() / 4;
     while 0 < left {
-        if cap == number_at(body, at) {
+        if cap == fields::whole_u32_at(body, at) {
             return true;
         }
         at += 4;

@@ -5,7 +5,7 @@ mod utf8;
 pub use utf8::is_utf8;
 ghost use mathlib.Core.Path.{_≡_};
 ghost use Prim.Native.Nat.{_+_, _<_, _≤_, _^_};
-ghost use lib.ListN.{take, drop};
+ghost use lib.ListN.{length, take, drop};
 ghost use Rattle.definition.specs.Bytes.{u8At, u16At, u32At, u64At, nameAt, nameEnd};
 ghost use Rattle.definition.specs.Utf8.{noZero, nameFits};
 
@@ -37,6 +37,15 @@ pub fn u32_at(s: &[u8], i: usize) -> u32
     let high = u16_at(s, i);
     let low = u16_at(s, i + 2);
     high as u32 * 65536 + low as u32
+}
+
+// The same where all four bytes are there: without a test for the end the compiler reads them at once.
+pub fn whole_u32_at(s: &[u8], i: usize) -> u32
+    requires { ⌜ i + 4 ≤ length (now s) ⌝ }
+    ensures { λ r. ⌜ r ≡ u32At (now (s .entry)) i ⌝ }
+{
+    let high = (s[i] as u32 * 256 + s[i + 1] as u32) * 256 + s[i + 2] as u32;
+    high * 256 + s[i + 3] as u32
 }
 
 pub fn u64_at(s: &[u8], i: usize) -> u64

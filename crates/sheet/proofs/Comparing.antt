@@ -11,6 +11,7 @@ use borrow.Author.Tests.{eq-eqb, ne-eqb}
 use lib.Dec.{eqb}
 use lib.ListN.{length, getD, take}
 use lib.Seq.{take-all, take-take}
+use Rattle.definition.specs.Bytes.{u16At, u32At}
 use Rattle.definition.specs.Choice.{pick}
 use Rattle.definition.specs.Tests.{sameBytes}
 use Rattle.sheet.specs.Reading.{bytesAt}
@@ -109,3 +110,9 @@ module _ (a b : List ℕ) (bytes-a : (i : ℕ) → getD a i 0 < 256) (bytes-b : 
 pub one : (a : List ℕ) (i : ℕ) → bytesAt a i 1 ≡ getD a i 0
 unfolding bytesAt
 one a i = rw (add-zero i) (omega arith)
+
+pub four : (a : List ℕ) (i : ℕ) → bytesAt a i 4 ≡ u32At a i
+unfolding bytesAt u32At u16At
+four a i =
+    let e : i + 2 + 1 ≡ i + 3 = omega arith in
+    rw (add-zero i) (omega (arith, ap (λ (j : ℕ). getD a j 0) e))

@@ -2,19 +2,9 @@
 // fields, and four at a time where there are four.
 ghost use mathlib.Core.Path.{_≡_};
 ghost use mathlib.Core.Bool.{true, false};
-ghost use Prim.Native.Nat.{_+_, _≤_};
+ghost use Prim.Native.Nat.{_≤_};
 ghost use lib.ListN.{length, take};
 ghost use Rattle.definition.specs.Tests.{sameBytes};
-ghost use Rattle.sheet.specs.Reading.{bytesAt};
-
-// Four bytes as one number, which the compiler reads at once.
-fn four_at(s: &[u8], i: usize) -> u32
-    requires { ⌜ i + 4 ≤ length (now s) ⌝ }
-    ensures { λ r. ⌜ r ≡ bytesAt (now (s .entry)) i 4 ⌝ }
-{
-    let high = (s[i] as u32 * 256 + s[i + 1] as u32) * 256 + s[i + 2] as u32;
-    high * 256 + s[i + 3] as u32
-}
 
 // Whether two bodies are the same up to q, if they are up to p. The bytes below p may be compared again, with those
 // behind them.
@@ -26,7 +16,7 @@ pub fn same_up_to(a: &[u8], b: &[u8], p: usize, q: usize) -> bool
     while p < j {
         if 4 <= j {
             j -= 4;
-            if four_at(a, j) != four_at(b, j) {
+            if fields::whole_u32_at(a, j) != fields::whole_u32_at(b, j) {
                 return false;
             }
         } else {
@@ -48,7 +38,7 @@ pub fn ends_differ(a: &[u8], b: &[u8]) -> bool
         return false;
     }
     let i = b.len() - 4;
-    if four_at(a, i) != four_at(b, i) {
+    if fields::whole_u32_at(a, i) != fields::whole_u32_at(b, i) {
         return true;
     }
     false

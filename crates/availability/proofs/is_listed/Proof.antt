@@ -15,18 +15,18 @@ abbrev μ-loop : tie.MeasureT-loop
 loop-holds : tie.Need-loop-holds Inv-loop μ-loop
 loop-holds c = starts _ _ _ refl
 
-number-at-requires : tie.Need-number-at-requires Inv-loop μ-loop
-number-at-requires c κs = omega (arith, c .before .loop .inv .inside, c .loop-test .taken)
+whole-u32-at-requires : tie.Need-whole-u32-at-requires Inv-loop μ-loop
+whole-u32-at-requires c κs = omega (arith, c .before .loop .inv .inside, c .loop-test .taken)
 
 returns : tie.Need-returns Inv-loop μ-loop
 returns c =
     let l = c .before .before .before .loop in
-    found _ _ (l .inv) (c .before .before .loop-test .taken) (c .if1 .taken ∙ c .before .number-at .ensures)
+    found _ _ (l .inv) (c .before .before .loop-test .taken) (c .if1 .taken ∙ c .before .whole-u32-at .ensures)
 
 loop-again : tie.Need-loop-again Inv-loop μ-loop
 loop-again c =
     let l = c .before .before .before .loop in
-    turn _ _ (l .inv) (c .before .before .loop-test .taken) (λ e. c .if1 .left (e ∙ sym (c .before .number-at .ensures)))
+    turn _ _ (l .inv) (c .before .before .loop-test .taken) (λ e. c .if1 .left (e ∙ sym (c .before .whole-u32-at .ensures)))
 
 returns-2 : tie.Need-returns-2 Inv-loop μ-loop
 returns-2 c = ended _ _ (c .before .loop .inv) (c .loop-test .left)
@@ -34,5 +34,5 @@ returns-2 c = ended _ _ (c .before .loop .inv) (c .loop-test .left)
 pub is-listed-spec : {M : Type 1} → statement M
 is-listed-spec =
     tie.close
-    (tie.spec Inv-loop μ-loop loop-holds number-at-requires returns (λ c. search needs) (λ c. search needs) (λ c. search needs)
+    (tie.spec Inv-loop μ-loop loop-holds whole-u32-at-requires returns (λ c. search needs) (λ c. search needs) (λ c. search needs)
     loop-again returns-2)

@@ -7,7 +7,7 @@ use borrow.Author.Needs.{needs}
 use denote.Ref.{now}
 use lib.ListN.{length, take}
 use Rattle.definition.specs.Tests.{sameBytes}
-use Rattle.sheet.proofs.Comparing.{shorter, bytes-differ, bytes-same, one}
+use Rattle.sheet.proofs.Comparing.{shorter, bytes-differ, bytes-same, one, four}
 use Rattle.sheet.proofs.bodies.same_up_to.Statement.{statement}
 use Rattle.sheet.proofs.bodies.same_up_to.Tie as tie
 
@@ -21,10 +21,10 @@ loop-holds : tie.Need-loop-holds Inv-loop μ-loop
 loop-holds c = (search needs, refl)
 
 returns : tie.Need-returns Inv-loop μ-loop
-returns c = let a = c .before .before .before .before .before .before .before .before .args in sym (c .before .before .before .before .before .loop .inv .1 ∙ bytes-differ (now (a .a)) (now (a .b)) (λ i. omega (arith, c .before .before .before .before .before .before .before .shared-slice-known .given i)) (λ i. omega (arith, c .before .before .before .before .before .before .shared-slice-known2 .given i)) (c .before .before .before .before .before .loop .j) 4 (c .before .before .before .if1 .taken) (omega (arith, c .before .before .before .before .before .before .before .before .pre .0)) (omega (arith, c .before .before .before .before .before .before .before .before .pre .1 .0)) (λ e. c .if2 .taken (c .before .before .four-at .ensures ∙ e ∙ sym (c .before .four-at2 .ensures))))
+returns c = let a = c .before .before .before .before .before .before .before .before .args in let i = c .before .before .before .before .before .loop .j - 4 in sym (c .before .before .before .before .before .loop .inv .1 ∙ bytes-differ (now (a .a)) (now (a .b)) (λ i. omega (arith, c .before .before .before .before .before .before .before .shared-slice-known .given i)) (λ i. omega (arith, c .before .before .before .before .before .before .shared-slice-known2 .given i)) (c .before .before .before .before .before .loop .j) 4 (c .before .before .before .if1 .taken) (omega (arith, c .before .before .before .before .before .before .before .before .pre .0)) (omega (arith, c .before .before .before .before .before .before .before .before .pre .1 .0)) (λ e. c .if2 .taken (c .before .before .whole-u32-at .ensures ∙ sym (four (now (a .a)) i) ∙ e ∙ four (now (a .b)) i ∙ sym (c .before .whole-u32-at2 .ensures))))
 
 loop-again : tie.Need-loop-again Inv-loop μ-loop
-loop-again c = let a = c .before .before .before .before .before .before .before .before .args in (search needs, c .before .before .before .before .before .loop .inv .1 ∙ bytes-same (now (a .a)) (now (a .b)) (λ i. omega (arith, c .before .before .before .before .before .before .before .shared-slice-known .given i)) (λ i. omega (arith, c .before .before .before .before .before .before .shared-slice-known2 .given i)) (c .before .before .before .before .before .loop .j) 4 (c .before .before .before .if1 .taken) (omega (arith, c .before .before .before .before .before .before .before .before .pre .0)) (omega (arith, c .before .before .before .before .before .before .before .before .pre .1 .0)) (sym (c .before .before .four-at .ensures) ∙ c .if2 .left ∙ c .before .four-at2 .ensures))
+loop-again c = let a = c .before .before .before .before .before .before .before .before .args in let i = c .before .before .before .before .before .loop .j - 4 in (search needs, c .before .before .before .before .before .loop .inv .1 ∙ bytes-same (now (a .a)) (now (a .b)) (λ i. omega (arith, c .before .before .before .before .before .before .before .shared-slice-known .given i)) (λ i. omega (arith, c .before .before .before .before .before .before .shared-slice-known2 .given i)) (c .before .before .before .before .before .loop .j) 4 (c .before .before .before .if1 .taken) (omega (arith, c .before .before .before .before .before .before .before .before .pre .0)) (omega (arith, c .before .before .before .before .before .before .before .before .pre .1 .0)) (four (now (a .a)) i ∙ sym (c .before .before .whole-u32-at .ensures) ∙ c .if2 .left ∙ c .before .whole-u32-at2 .ensures ∙ sym (four (now (a .b)) i)))
 
 returns-2 : tie.Need-returns-2 Inv-loop μ-loop
 returns-2 c = let a = c .before .before .before .before .before .before .before .before .args in let i = c .before .before .before .before .before .loop .j - 1 in sym (c .before .before .before .before .before .loop .inv .1 ∙ bytes-differ (now (a .a)) (now (a .b)) (λ i. omega (arith, c .before .before .before .before .before .before .before .shared-slice-known .given i)) (λ i. omega (arith, c .before .before .before .before .before .before .shared-slice-known2 .given i)) (c .before .before .before .before .before .loop .j) 1 (omega arith) (omega (arith, c .before .before .before .before .before .before .before .before .pre .0)) (omega (arith, c .before .before .before .before .before .before .before .before .pre .1 .0)) (λ e. c .if3 .taken (sym (one (now (a .a)) i) ∙ e ∙ one (now (a .b)) i)))
