@@ -176,6 +176,25 @@ pub fn full_length() -> usize {
         .expect("room")
 }
 
+/// The factor of the hash by which types are told apart, `crates/sheet/src/hash.rt`: a hash is the
+/// sum of a record's tag and the big-endian words of its body, each times the factor once for each
+/// word behind it.
+const FACTOR: u32 = 2_654_435_761;
+
+/// Eight bytes for each of so many names, of which no two are the same. Where they are two words of a
+/// body, the hash is the same: what the first word adds, the second takes away.
+fn one_hash(count: usize) -> Vec<[u8; 8]> {
+    let sum = |first: u32, second: u32| first.wrapping_mul(FACTOR).wrapping_add(second);
+    let all = sum(u32::from_be_bytes(*b"nnnn"), u32::from_be_bytes(*b"nnnn"));
+    let graphic = |word: u32| word.to_be_bytes().iter().all(u8::is_ascii_graphic);
+    let words =
+        (u32::from_be_bytes(*b"aaaa")..).filter(|&first| graphic(first)).filter_map(|first| {
+            let second = all.wrapping_sub(sum(first, 0));
+            graphic(second).then(|| (first as u64) << 32 | second as u64)
+        });
+    words.map(u64::to_be_bytes).take(count).collect()
+}
+
 /// What could take long, each with what it is.
 pub fn worst() -> Vec<(&'static str, Vec<u8>)> {
     let mut out: Vec<(&'static str, Vec<u8>)> = Vec::new();
@@ -254,6 +273,31 @@ pub fn worst() -> Vec<(&'static str, Vec<u8>)> {
     };
     add("256 scalars alike but for the first bytes of long names", fill(vec![], 256, alike(true)));
     add("256 scalars alike but for the last bytes of long names", fill(vec![], 256, alike(false)));
+    // Types of one hash are told apart byte by byte. The length byte and three bytes of a name are
+    // the first word of the body, so that the next two words are bytes 3 to 10 of the name.
+    let eights = one_hash(256);
+    let one_hash = |n: usize, length: usize, inner: Inner| {
+        let mut name = vec![b'n'; length];
+        name[3..11].copy_from_slice(&eights[n]);
+        Record::Type(Type { name: Some(name), inner })
+    };
+    let scalars = |n: usize| one_hash(n, 54, scalar(FLOAT));
+    add("256 scalars of one hash, alike but for eight bytes of names", fill(vec![], 256, scalars));
+    // The offsets of the fifth and of the ninth member are words of the body, seven apart.
+    let nine = |n: usize| {
+        let take_away = (n as u32).wrapping_mul(FACTOR.wrapping_pow(7)).wrapping_neg();
+        let offset = |at: usize| match at {
+            4 => n as u32,
+            8 => take_away,
+            _ => 0,
+        };
+        let member = |at: usize| Member { ty: 0, offset: offset(at), name: None };
+        unnamed(Inner::Struct { span: 0, members: (0..9).map(member).collect() })
+    };
+    add(
+        "about 220 structs of one hash, alike but for the fifth and ninth member",
+        fill(vec![unnamed(scalar(FLOAT))], 255, nine),
+    );
     for (what, character, count) in [
         ("about 60 names of 254 bytes, all ASCII", "n", 252),
         ("about 60 names of 254 bytes, three bytes a character", "\u{20ac}", 84),
@@ -304,24 +348,23 @@ pub fn worst() -> Vec<(&'static str, Vec<u8>)> {
         "256 storage images, each needs the last two of 3,482 capabilities",
         fill(available(3_480), 256, two),
     );
-    // Both at once: a long list, and names that differ in front only.
+    // Both at once: a long list, and types of one hash.
+    let one_shape = Inner::Image { dim: D1, arrayed: 0, class: STORED, first: 1, second: 3 };
+    let images = |n: usize| one_hash(n, 39, one_shape.clone());
+    add(
+        "256 images of one hash, alike but for eight bytes of names, 1,002 capabilities",
+        fill(available(1_000), 256, images),
+    );
     let front = |n: usize, length: usize, inner: Inner| {
         let mut name = vec![b'n'; length];
         (name[0], name[1]) = (b'a' + (n / 16) as u8, b'a' + (n % 16) as u8);
         Record::Type(Type { name: Some(name), inner })
     };
-    let one_shape = Inner::Image { dim: D1, arrayed: 0, class: STORED, first: 1, second: 3 };
-    let alike = |n: usize| front(n, 39, one_shape.clone());
-    add(
-        "256 images alike but for the first bytes of names, 1,002 capabilities",
-        fill(available(1_000), 256, alike),
-    );
     let six = |n: usize| front(n, 10, structure(0, &[0; 6]));
     add(
         "255 structs of 6 members alike but for the first bytes of names",
         fill(vec![unnamed(scalar(FLOAT))], 255, six),
     );
-    // Each member is compared before the one that differs, and the last bytes are the same.
     let seven = |n: usize| {
         let member =
             |at: usize| Member { ty: 0, offset: if at == 5 { n as u32 } else { 0 }, name: None };

@@ -99,7 +99,7 @@ fn answers_in(
 {
     let mut memo = [0u8; 256];
     let mut remaps = [0u32; 64];
-    let mut types = [0u32; 256];
+    let mut types = [0u32; 512];
     let mut constants = [0u32; 256];
     let mut globals = [0u32; 64];
     let o = sheet_writer::write_sheet(

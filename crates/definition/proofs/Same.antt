@@ -211,7 +211,7 @@ tag-again b n t low high =
 -- ---- the theorem
 
 -- lists of bytes are equal exactly if the test says so
-same-bytes : (xs ys : List ℕ) → T (sameBytes xs ys) → xs ≡ ys
+pub same-bytes : (xs ys : List ℕ) → T (sameBytes xs ys) → xs ≡ ys
 unfolding sameBytes
 same-bytes [] [] t = refl
 same-bytes [] (y ∷ ys) t = absurd t

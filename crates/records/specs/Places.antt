@@ -1,6 +1,6 @@
 -- What the program holds of a sheet that it has read in part: places of records, and counts. What was read is found
 -- again at the places, so that nothing has to be said of how the two hang together.
-use Prim.Native.Nat.{ℕ, _≤_}
+use Prim.Native.Nat.{ℕ, _+_, _≤_}
 use mathlib.Core.List.{List, map}
 use mathlib.Core.Option.{Option, some, none}
 use lib.ListN.{length, take, drop}
@@ -39,7 +39,8 @@ constantFrom s at = constantFields (recordFrom s at .tag) (recordFrom s at .body
 abbrev pub globalFrom : List ℕ → ℕ → Global
 globalFrom s at = globalFields (recordFrom s at .body) (nameEnd (recordFrom s at .body) 0) .value
 
--- the slices that the caller lends: where the records of each kind stand
+-- the slices that the caller lends: where the records of each kind stand. Behind as many places as there can be types, `types`
+-- has a hash of each type (`sheet`)
 pub record Places : Type 0 where
   pub remaps : List ℕ
   pub types : List ℕ
@@ -60,10 +61,10 @@ seenOf s p k = record {
   globals = map (globalFrom s) (take (k .globals) (p .globals));
 }
 
--- the slices hold as many places as a sheet can fill
+-- the slices hold as many places as a sheet can fill, and as many hashes
 pub record Ample (p : Places) : Type 0 where
   pub remaps : remapsMost ≤ length (p .remaps)
-  pub types : typesMost ≤ length (p .types)
+  pub types : typesMost + typesMost ≤ length (p .types)
   pub constants : constantsMost ≤ length (p .constants)
   pub globals : globalsMost ≤ length (p .globals)
 

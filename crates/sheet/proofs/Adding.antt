@@ -9,7 +9,7 @@ use native.Mathlib.Numerals.{add-one}
 use borrow.Author.Tests.{ltb-true}
 use lib.Dec.{eqb, ltb}
 use lib.ListN.{length, take, set, length-map}
-use lib.Seq.{length-take-le, take-suc-set}
+use lib.Seq.{length-take-le, take-suc-set, take-set-le}
 use Rattle.definition.specs.Choice.{within}
 use Rattle.definition.specs.Sheet.{Record, tagRank, entryOf}
 use Rattle.definition.specs.Tests.{Seen, add, addRecord, placeTest, outOfOrder, room, readingTest, present}
@@ -19,8 +19,10 @@ use Rattle.records.specs.declared.Counts.{Counts}
 use Rattle.records.specs.declared.Place.{Place}
 use Rattle.records.specs.declared.Place.the-variants.{Nowhere, At}
 use Rattle.definition.proofs.Truth.{pick-for, unless-zero, first-passed}
-use Rattle.sheet.specs.Holding.{notedAt, addCounts, Passed, Held}
-use Rattle.sheet.specs.Reading.{Looked}
+use Rattle.sheet.specs.Hash.{hashOf, Hashed}
+use Rattle.sheet.specs.Holding.{typeNoted, notedAt, addCounts, Passed, Held}
+use Rattle.sheet.specs.Reading.{Looked, Stored}
+use Rattle.sheet.proofs.Hashes.{hashed-more}
 
 -- ---- the counts are those of what was read
 
@@ -43,6 +45,9 @@ counted s p k a f = record {
 
 pub looked : (s : List ℕ) (p : Places) (k : Counts) → Ample p → WithinLimits k → Looked s (p .remaps) (p .types) k (seenOf s p k)
 looked s p k a f = record { counted = counted s p k a f; remaps = refl; types = refl }
+
+pub stored : (s : List ℕ) (p : Places) (k : Counts) → Ample p → WithinLimits k → Hashed s (p .types) (k .types) → Stored s (p .remaps) (p .types) k
+stored s p k a f h = record { remaps = omega arith; types = omega arith; hashed = h }
 
 -- ---- what a passed test of the place tells
 
@@ -88,7 +93,11 @@ map-snoc f (p ∷ os) o = ap (λ es. f p ∷ es) (map-snoc f os o)
 one-more : {A : Type 0} (f : ℕ → A) (l : List ℕ) (n at : ℕ) → n < length l → map f (take (n + 1) (set l n at)) ≡ map f (take n l) ++ (f at ∷ [])
 one-more f l n at h = rw (add-one, take-suc-set l n at h) (map-snoc f (take n l) at)
 
-module _ (s : List ℕ) (p : Places) (k : Counts) (at : ℕ) (a : Ample p) (f : WithinLimits k) where
+-- the hash lies behind the places
+one-more-type : {A : Type 0} (f : ℕ → A) (l : List ℕ) (n at h : ℕ) → n < 256 → 512 ≤ length l → map f (take (n + 1) (typeNoted l n at h)) ≡ map f (take n l) ++ (f at ∷ [])
+one-more-type f l n at h few long = ap (map f) (take-set-le (n + 1) (set l n at) (256 + n) h (omega arith)) ∙ one-more f l n at (omega arith)
+
+module _ (s : List ℕ) (p : Places) (k : Counts) (at : ℕ) (a : Ample p) (f : WithinLimits k) (hs : Hashed s (p .types) (k .types)) (h : ℕ) (eh : h ≡ hashOf (recordFrom s at)) where
   abbrev n : Seen
   n = seenOf s p k
 
@@ -97,58 +106,59 @@ module _ (s : List ℕ) (p : Places) (k : Counts) (at : ℕ) (a : Ample p) (f : 
 
   abbrev Adds : ℕ → Type 0
   Adds r = tagRank (recordFrom s at .tag) ≡ r → room (seenOf s p k) r ≡ true
-      → (seenOf s (notedAt p k r at) (addCounts k r at) ≡ addRecord (seenOf s p k) (recordFrom s at)) × WithinLimits (addCounts k r at)
+      → (seenOf s (notedAt p k r at h) (addCounts k r at) ≡ addRecord (seenOf s p k) (recordFrom s at)) × WithinLimits (addCounts k r at) × Hashed s (notedAt p k r at h .types) (addCounts k r at .types)
 
   adds-1 : Adds 1
   unfolding notedAt addCounts addRecord add entryOf
-  adds-1 e h = (simp e, record { remaps = f .remaps; types = f .types; constants = f .constants; globals = f .globals })
+  adds-1 e q = (simp e, record { remaps = f .remaps; types = f .types; constants = f .constants; globals = f .globals }, hs)
 
   adds-2 : Adds 2
   unfolding notedAt addCounts addRecord add entryOf
-  adds-2 e h =
+  adds-2 e q =
       let c = counted s p k a f in
-      let l : k .remaps < 64 = rw (c .remaps) at (ltb-true (length (n .remaps)) 64 h) in
-      (simp (e, one-more (remapFrom s) (p .remaps) (k .remaps) at (omega arith)), record { remaps = omega arith; types = f .types; constants = f .constants; globals = f .globals })
+      let l : k .remaps < 64 = rw (c .remaps) at (ltb-true (length (n .remaps)) 64 q) in
+      (simp (e, one-more (remapFrom s) (p .remaps) (k .remaps) at (omega arith)), record { remaps = omega arith; types = f .types; constants = f .constants; globals = f .globals }, hs)
 
   adds-3 : Adds 3
   unfolding notedAt addCounts addRecord add entryOf
-  adds-3 e h =
+  adds-3 e q =
       let c = counted s p k a f in
-      let l : k .types < 256 = rw (c .types) at (ltb-true (length (n .types)) 256 h) in
-      (simp (e, one-more (typeFrom s) (p .types) (k .types) at (omega arith)), record { remaps = f .remaps; types = omega arith; constants = f .constants; globals = f .globals })
+      let l : k .types < 256 = rw (c .types) at (ltb-true (length (n .types)) 256 q) in
+      (simp (e, one-more-type (typeFrom s) (p .types) (k .types) at h l (a .types)), record { remaps = f .remaps; types = omega arith; constants = f .constants; globals = f .globals }, hashed-more s (p .types) (k .types) at h l (a .types) eh hs)
 
   adds-4 : Adds 4
   unfolding notedAt addCounts addRecord add entryOf
-  adds-4 e h =
+  adds-4 e q =
       let c = counted s p k a f in
-      let l : k .constants < 256 = rw (c .constants) at (ltb-true (length (n .constants)) 256 h) in
-      (simp (e, one-more (constantFrom s) (p .constants) (k .constants) at (omega arith)), record { remaps = f .remaps; types = f .types; constants = omega arith; globals = f .globals })
+      let l : k .constants < 256 = rw (c .constants) at (ltb-true (length (n .constants)) 256 q) in
+      (simp (e, one-more (constantFrom s) (p .constants) (k .constants) at (omega arith)), record { remaps = f .remaps; types = f .types; constants = omega arith; globals = f .globals }, hs)
 
   adds-5 : Adds 5
   unfolding notedAt addCounts addRecord add entryOf
-  adds-5 e h =
+  adds-5 e q =
       let c = counted s p k a f in
-      let l : k .globals < 64 = rw (c .globals) at (ltb-true (length (n .globals)) 64 h) in
-      (simp (e, one-more (globalFrom s) (p .globals) (k .globals) at (omega arith)), record { remaps = f .remaps; types = f .types; constants = f .constants; globals = omega arith })
+      let l : k .globals < 64 = rw (c .globals) at (ltb-true (length (n .globals)) 64 q) in
+      (simp (e, one-more (globalFrom s) (p .globals) (k .globals) at (omega arith)), record { remaps = f .remaps; types = f .types; constants = f .constants; globals = omega arith }, hs)
 
   pub adds : (r : ℕ) → r ≡ tagRank (recordFrom s at .tag) → Placed (seenOf s p k) (tagRank (recordFrom s at .tag))
-      → (seenOf s (notedAt p k r at) (addCounts k r at) ≡ addRecord (seenOf s p k) (recordFrom s at)) × WithinLimits (addCounts k r at)
-  adds r e h =
+      → (seenOf s (notedAt p k r at h) (addCounts k r at) ≡ addRecord (seenOf s p k) (recordFrom s at)) × WithinLimits (addCounts k r at) × Hashed s (notedAt p k r at h .types) (addCounts k r at .types)
+  adds r e q =
       by-rank Adds adds-1 adds-2 adds-3 adds-4 adds-5 r
-      (rw e (h .ranked)) (rw e (rank-most (recordFrom s at .tag))) (sym e) (rw e (h .room))
+      (rw e (q .ranked)) (rw e (rank-most (recordFrom s at .tag))) (sym e) (rw e (q .room))
 
 -- what `hold` leaves, in slices of the same lengths
-pub held : (s : List ℕ) (p p′ : Places) (k k′ : Counts) (at r : ℕ) → Passed s p k at → r ≡ tagRank (recordFrom s at .tag)
-    → p′ ≡ notedAt p k r at → k′ ≡ addCounts k r at
+pub held : (s : List ℕ) (p p′ : Places) (k k′ : Counts) (at r h : ℕ) → Passed s p k at → r ≡ tagRank (recordFrom s at .tag) → h ≡ hashOf (recordFrom s at)
+    → p′ ≡ notedAt p k r at h → k′ ≡ addCounts k r at
     → length (p′ .remaps) ≡ length (p .remaps) → length (p′ .types) ≡ length (p .types)
     → length (p′ .constants) ≡ length (p .constants) → length (p′ .globals) ≡ length (p .globals)
     → Held s p k at p′ k′
-held s p p′ k k′ at r h er ep ek lr lt lc lg =
-    let a = adds s p k at (h .ample) (h .few) r er (placed-of (seenOf s p k) (recordFrom s at) (h .tested)) in
-    let m = h .ample in
+held s p p′ k k′ at r h d er eh ep ek lr lt lc lg =
+    let a = adds s p k at (d .ample) (d .few) (d .hashed) h eh r er (placed-of (seenOf s p k) (recordFrom s at) (d .tested)) in
+    let m = d .ample in
     record {
       ample = record { remaps = rw lr (m .remaps); types = rw lt (m .types); constants = rw lc (m .constants); globals = rw lg (m .globals) };
       few = rw ek (a .1);
+      hashed = rw (ep, ek) (a .2);
       counts = ek ∙ ap (λ (j : ℕ). addCounts k j at) er;
       seen = rw (ep, ek) (a .0);
     }

@@ -1,3 +1,4 @@
 pub mod Comparing
+pub mod Hashes
 pub mod Earlier
 pub mod Adding

@@ -6,20 +6,25 @@ use lib.Dec.{eqb}
 use lib.ListN.{set}
 use Rattle.definition.specs.Choice.{pick}
 use Rattle.definition.specs.Sheet.{tagRank}
-use Rattle.definition.specs.Tests.{readingTest, addRecord}
+use Rattle.definition.specs.Tests.{readingTest, addRecord, typesMost}
 use Rattle.records.specs.Places.{Places, seenOf, recordFrom, Ample, WithinLimits}
 use Rattle.records.specs.declared.Counts.{Counts}
 use Rattle.records.specs.declared.Place.the-variants.{Nowhere, At}
+use Rattle.sheet.specs.Hash.{Hashed}
 
 -- before the first record
 abbrev pub noCounts : Counts
 noCounts = record { rank = 0; available = Nowhere; remaps = 0; types = 0; constants = 0; globals = 0 }
 
--- after a record of rank r at a place: the place is kept in the list of its kind
-unfoldable pub notedAt : Places → Counts → ℕ → ℕ → Places
-notedAt p k r at = record {
+-- a type's place and hash, as the n-th
+abbrev pub typeNoted : List ℕ → ℕ → ℕ → ℕ → List ℕ
+typeNoted ts n at h = set (set ts n at) (typesMost + n) h
+
+-- after a record of rank r and hash h at a place: the place is kept in the list of its kind, and a type's hash
+unfoldable pub notedAt : Places → Counts → ℕ → ℕ → ℕ → Places
+notedAt p k r at h = record {
   remaps = pick (eqb r 2) (set (p .remaps) (k .remaps) at) (p .remaps);
-  types = pick (eqb r 3) (set (p .types) (k .types) at) (p .types);
+  types = pick (eqb r 3) (typeNoted (p .types) (k .types) at h) (p .types);
   constants = pick (eqb r 4) (set (p .constants) (k .constants) at) (p .constants);
   globals = pick (eqb r 5) (set (p .globals) (k .globals) at) (p .globals);
 }
@@ -39,6 +44,7 @@ addCounts k r at = record {
 pub record Passed (s : List ℕ) (p : Places) (k : Counts) (at : ℕ) : Type 0 where
   pub ample : Ample p
   pub few : WithinLimits k
+  pub hashed : Hashed s (p .types) (k .types)
   pub small : at < 4294967296
   pub tested : readingTest (seenOf s p k) (recordFrom s at) ≡ 0
 
@@ -46,5 +52,6 @@ pub record Passed (s : List ℕ) (p : Places) (k : Counts) (at : ℕ) : Type 0 w
 pub record Held (s : List ℕ) (p : Places) (k : Counts) (at : ℕ) (p′ : Places) (k′ : Counts) : Type 0 where
   pub ample : Ample p′
   pub few : WithinLimits k′
+  pub hashed : Hashed s (p′ .types) (k′ .types)
   pub counts : k′ ≡ addCounts k (tagRank (recordFrom s at .tag)) at
   pub seen : seenOf s p′ k′ ≡ addRecord (seenOf s p k) (recordFrom s at)

@@ -28,18 +28,3 @@ pub fn same_up_to(a: &[u8], b: &[u8], p: usize, q: usize) -> bool
     }
     true
 }
-
-// Whether two bodies of one length differ in their last four bytes.
-pub fn ends_differ(a: &[u8], b: &[u8]) -> bool
-    requires { ⌜ length (now a) ≡ length (now b) ⌝ }
-    ensures { λ r. ⌜ (r ≡ true → sameBytes (now (a .entry)) (now (b .entry)) ≡ false) ⌝ }
-{
-    if b.len() < 4 {
-        return false;
-    }
-    let i = b.len() - 4;
-    if fields::whole_u32_at(a, i) != fields::whole_u32_at(b, i) {
-        return true;
-    }
-    false
-}

@@ -1,11 +1,16 @@
-// What is held of the records that were read: their places in the slices of their kind, and counts.
+// What is held of the records that were read: their places in the slices of their kind, the types' hashes, and counts.
+use crate::hash::hash_of;
 use records::Counts;
 use records::Place;
+use records::TYPES_MOST;
 ghost use mathlib.Core.Path.{_≡_};
-ghost use Prim.Native.Nat.{_<_};
+ghost use Prim.Native.Nat.{_<_, _≤_};
 ghost use lib.ListN.{set};
+ghost use Rattle.definition.specs.Sheet.{recordAt};
+ghost use Rattle.definition.specs.Tests.{typesMost};
 ghost use Rattle.records.specs.Places.{placesOf, WithinLimits};
-ghost use Rattle.sheet.specs.Holding.{noCounts, notedAt, addCounts, Passed, Held};
+ghost use Rattle.sheet.specs.Hash.{hashOf};
+ghost use Rattle.sheet.specs.Holding.{noCounts, typeNoted, notedAt, addCounts, Passed, Held};
 
 pub fn nothing() -> Counts
     ensures { λ r. ⌜ r ≡ noCounts ⌝ }
@@ -30,7 +35,17 @@ fn put(places: &mut [u32], n: usize, at: usize)
     }
 }
 
-// Keeps the place of a record of rank r.
+// Keeps the place and the hash of the n-th type, which stands at the front of what is left.
+fn note_type(types: &mut [u32], n: usize, rest: &[u8], at: usize)
+    requires { ⌜ (n ≤ typesMost) × (at < 4294967296) ⌝ }
+    ensures { λ r. ⌜ now (types .exit) ≡ typeNoted (now (types .entry)) n at (hashOf (recordAt (now (rest .entry)))) ⌝ }
+{
+    let hash = hash_of(records::tag_of(rest), records::body_of(rest));
+    put(types, n, at);
+    put(types, TYPES_MOST + n, hash as usize);
+}
+
+// Keeps the place of a record of rank r, which stands at the front of what is left.
 fn note(
     remaps: &mut [u32],
     types: &mut [u32],
@@ -38,14 +53,15 @@ fn note(
     globals: &mut [u32],
     k: Counts,
     r: u8,
+    rest: &[u8],
     at: usize,
 )
-    requires { ⌜ at < 4294967296 ⌝ }
-    ensures { λ x. ⌜ placesOf (now (remaps .exit)) (now (types .exit)) (now (constants .exit)) (now (globals .exit)) ≡ notedAt (placesOf (now (remaps .entry)) (now (types .entry)) (now (constants .entry)) (now (globals .entry))) k r at ⌝ }
+    requires { ⌜ WithinLimits k × (at < 4294967296) ⌝ }
+    ensures { λ x. ⌜ placesOf (now (remaps .exit)) (now (types .exit)) (now (constants .exit)) (now (globals .exit)) ≡ notedAt (placesOf (now (remaps .entry)) (now (types .entry)) (now (constants .entry)) (now (globals .entry))) k r at (hashOf (recordAt (now (rest .entry)))) ⌝ }
 {
     match r {
         2 => put(remaps, k.remaps, at),
-        3 => put(types, k.types, at),
+        3 => note_type(types, k.types, rest, at),
         4 => put(constants, k.constants, at),
         5 => put(globals, k.globals, at),
         _ => {}
@@ -100,7 +116,8 @@ pub fn hold(
     requires { ⌜ Passed (now sheet) (placesOf (now remaps) (now types) (now constants) (now globals)) k at ⌝ }
     ensures { λ r. ⌜ Held (now (sheet .entry)) (placesOf (now (remaps .entry)) (now (types .entry)) (now (constants .entry)) (now (globals .entry))) k at (placesOf (now (remaps .exit)) (now (types .exit)) (now (constants .exit)) (now (globals .exit))) r ⌝ }
 {
-    let rank = records::rank_of(records::tag_of(records::rest_at(sheet, at)));
-    note(remaps, types, constants, globals, k, rank, at);
+    let rest = records::rest_at(sheet, at);
+    let rank = records::rank_of(records::tag_of(rest));
+    note(remaps, types, constants, globals, k, rank, rest, at);
     added(k, rank, at)
 }

@@ -1,20 +1,19 @@
 // A record's own tests, 5 to 12 of document 01 in its order, and what is held of the records that passed them.
 mod bodies;
+mod hash;
 pub mod holding;
 mod repeats;
 
 ghost use mathlib.Core.Path.{_≡_};
-ghost use Prim.Native.Nat.{_≤_};
-ghost use lib.ListN.{length};
 ghost use Rattle.definition.specs.Sheet.{recordAt, entryOf};
 ghost use Rattle.definition.specs.Tests.{Seen, entryTest, readingTest};
 ghost use Rattle.sheet_fields.specs.Fields.{recordOf};
-ghost use Rattle.sheet.specs.Reading.{Looked};
+ghost use Rattle.sheet.specs.Reading.{Looked, Stored};
 use records::Counts;
 
 // Tests 8 to 12 of a record of tag t and body b: the number of the first that fails, or 0.
 fn entry_test(s: &[u8], remaps: &[u32], types: &[u32], k: Counts, t: u8, b: &[u8]) -> u8
-    requires { ⌜ (k .remaps ≤ length (now remaps)) × (k .types ≤ length (now types)) ⌝ }
+    requires { ⌜ Stored (now s) (now remaps) (now types) k ⌝ }
     ensures { λ r. ⌜ ((n : Seen) → Looked (now (s .entry)) (now (remaps .entry)) (now (types .entry)) k n → r ≡ entryTest n (recordOf t (now (b .entry))) (entryOf (recordOf t (now (b .entry))) .value) (entryOf (recordOf t (now (b .entry))) .end)) ⌝ }
 {
     if !sheet_fields::form_known(t, b) {
@@ -40,7 +39,7 @@ fn entry_test(s: &[u8], remaps: &[u32], types: &[u32], k: Counts, t: u8, b: &[u8
 
 // Tests 5 to 12 of the record at the front of what is left: the number of the first that fails, or 0.
 pub fn record_test(s: &[u8], remaps: &[u32], types: &[u32], k: Counts, rest: &[u8]) -> u8
-    requires { ⌜ (k .remaps ≤ length (now remaps)) × (k .types ≤ length (now types)) ⌝ }
+    requires { ⌜ Stored (now s) (now remaps) (now types) k ⌝ }
     ensures { λ r. ⌜ ((n : Seen) → Looked (now (s .entry)) (now (remaps .entry)) (now (types .entry)) k n → r ≡ readingTest n (recordAt (now (rest .entry)))) ⌝ }
 {
     let t = records::tag_of(rest);

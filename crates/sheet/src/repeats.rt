@@ -1,17 +1,19 @@
 // Test 12: a type equal to an earlier one in name and all fields, or a remap of a group and binding already remapped.
 // A record that passed test 8 is its fields, each in its one form, so types are equal if their tags and bodies are.
-use crate::bodies::ends_differ;
 use crate::bodies::same_up_to;
+use crate::hash::hash_of;
 use records::Counts;
+use records::TYPES_MOST;
 ghost use mathlib.Core.Path.{_≡_};
 ghost use mathlib.Core.List.{map};
-ghost use Prim.Native.Nat.{_≤_, _<_};
+ghost use Prim.Native.Nat.{_+_, _≤_, _<_};
 ghost use lib.ListN.{length, take};
 ghost use Rattle.definition.specs.Sheet.{remapFields, entryOf};
-ghost use Rattle.definition.specs.Tests.{Seen, typeRead, remapRead, repeated};
+ghost use Rattle.definition.specs.Tests.{Seen, typesMost, typeRead, remapRead, repeated};
 ghost use Rattle.records.specs.Places.{typeFrom, remapFrom};
 ghost use Rattle.sheet_fields.specs.Fields.{recordOf};
-ghost use Rattle.sheet.specs.Reading.{Looked};
+ghost use Rattle.sheet.specs.Hash.{Hashed};
+ghost use Rattle.sheet.specs.Reading.{Looked, Stored};
 
 const STRUCT: u8 = 23;
 
@@ -39,25 +41,28 @@ fn member_end(b: &[u8], p: usize) -> usize
 }
 
 // Whether one of the first n types has tag t and body b: the search is left at the first that is equal, and a type at the first
-// member that differs. The last bytes, in which most differ, are compared before all else.
+// member that differs. Hashes, in which nearly all differ, are compared before all else.
 fn type_read(s: &[u8], types: &[u32], n: usize, t: u8, b: &[u8]) -> bool
-    requires { ⌜ n ≤ length (now types) ⌝ }
+    requires { ⌜ (typesMost + n ≤ length (now types)) × Hashed (now s) (now types) n ⌝ }
     ensures { λ r. ⌜ r ≡ typeRead (recordOf t (now (b .entry))) (map (typeFrom (now (s .entry))) (take n (now (types .entry)))) ⌝ }
 {
+    let hash = hash_of(t, b);
     let fixed = fixed_end(t, b);
     let mut read = false;
     let mut i = 0;
     'entries: while i < n {
-        let rest = records::rest_at(s, types[i] as usize);
+        let place = types[i];
+        let its_hash = types[TYPES_MOST + i];
         i += 1;
+        if its_hash != hash {
+            continue 'entries;
+        }
+        let rest = records::rest_at(s, place as usize);
         if records::tag_of(rest) != t {
             continue 'entries;
         }
         let e = records::body_of(rest);
         if e.len() != b.len() {
-            continue 'entries;
-        }
-        if ends_differ(e, b) {
             continue 'entries;
         }
         if !same_up_to(e, b, 0, fixed) {
@@ -101,7 +106,7 @@ fn remap_read(s: &[u8], remaps: &[u32], n: usize, b: &[u8]) -> bool
 
 // Test 12 of a record of tag t and body b.
 pub fn is_repeated(s: &[u8], remaps: &[u32], types: &[u32], k: Counts, t: u8, b: &[u8]) -> bool
-    requires { ⌜ (k .remaps ≤ length (now remaps)) × (k .types ≤ length (now types)) ⌝ }
+    requires { ⌜ Stored (now s) (now remaps) (now types) k ⌝ }
     ensures { λ r. ⌜ ((n : Seen) → Looked (now (s .entry)) (now (remaps .entry)) (now (types .entry)) k n → r ≡ repeated n (entryOf (recordOf t (now (b .entry))) .value)) ⌝ }
 {
     match records::rank_of(t) {

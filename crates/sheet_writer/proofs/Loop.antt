@@ -20,8 +20,9 @@ use Rattle.records.specs.declared.Counts.{Counts}
 use Rattle.records.specs.Places.{Places, seenOf, Ample, WithinLimits, recordFrom, typesFrom}
 use Rattle.records.proofs.Places.{header-size, whole}
 use Rattle.records.proofs.Loop.{Going, start, goes-on, next-inside, ends-fit, ends-four, ends-refused, judge-go}
+use Rattle.sheet.specs.Hash.{Hashed}
 use Rattle.sheet.specs.Holding.{noCounts, addCounts, Passed, Held as Kept}
-use Rattle.sheet.proofs.Adding.{looked, counted, placed-of, rank-most}
+use Rattle.sheet.proofs.Adding.{looked, stored, counted, placed-of, rank-most}
 use Rattle.zeroable.specs.Memo.{Memo}
 use Rattle.zeroable.proofs.Kept.{grows, empty as nothing-known}
 use Rattle.writer.specs.declared.Writer.{Writer}
@@ -49,6 +50,7 @@ pub record Holds (s T₀ S₀ m₀ : List ℕ) (p₀ : Places) (nr nb : ℕ) (T 
   pub globals : length (p .globals) ≡ length (p₀ .globals)
   pub ample : Ample p
   pub few : WithinLimits k
+  pub hashed : Hashed s (p .types) (k .types)
   pub small : length s ≤ 16384
   pub used : Used nr nb at k w
   pub memo : Memo (seenOf s p k .types) m
@@ -76,6 +78,7 @@ begins s T S m p nr nb start′ k w h a e ek es low ew held =
       globals = refl;
       ample = a;
       few = record { remaps = omega arith; types = omega arith; constants = omega arith; globals = omega arith };
+      hashed = λ i l. absurd (omega arith);
       small = z .1;
       used = rw ew (omega arith);
       memo = nothing-known [] m (omega arith) e;
@@ -163,8 +166,7 @@ module _ (s T₀ S₀ m₀ : List ℕ) (p₀ : Places) (nr nb : ℕ) (T S m : Li
       ready = record {
         seen = seenOf s p k;
         before = before s p k (h .ample) (h .few);
-        remaps = omega (arith, h .ample .remaps, h .few .remaps);
-        types = omega (arith, h .ample .types, h .few .types);
+        stored = stored s p k (h .ample) (h .few) (h .hashed);
         few = h .few .types;
         small = bytes-left;
         memo = h .memo;
@@ -186,7 +188,7 @@ module _ (s T₀ S₀ m₀ : List ℕ) (p₀ : Places) (nr nb : ℕ) (T S m : Li
           read = first-passed (readingTest (seenOf s p k) (recordAt (drop at s))) _ (sym tested ∙ z) .0
 
           pub passed : Passed s p k at
-          passed = record { ample = h .ample; few = h .few; small = omega (arith, h .small); tested = read }
+          passed = record { ample = h .ample; few = h .few; hashed = h .hashed; small = omega (arith, h .small); tested = read }
 
           pub turns : (p′ : Places) (k′ : Counts) (at′ : ℕ) → Kept s p k at p′ k′ → at′ ≡ at + (2 + u16At rest 0)
               → length T′ ≡ length T → length S′ ≡ length S → length m′ ≡ length m
@@ -210,6 +212,7 @@ module _ (s T₀ S₀ m₀ : List ℕ) (p₀ : Places) (nr nb : ℕ) (T S m : Li
                 globals = lg ∙ h .globals;
                 ample = a .ample;
                 few = a .few;
+                hashed = a .hashed;
                 small = h .small;
                 used = rw (en, a .counts, ← e) u;
                 memo = subst (λ (n : Seen). Memo (n .types) m′) (sym (a .seen)) (memo-added (seenOf s p k) (tagRank (recordFrom s at .tag)) (entryOf (recordFrom s at) .value) m′ (subst (λ (n : Seen). length (n .types) ≤ length m′) (a .seen) places) (turn .memo));

@@ -13,7 +13,7 @@ use Rattle.definition.specs.Unfit.{fitnessTest}
 use Rattle.definition.specs.Operations.{recordTest}
 use Rattle.records.specs.declared.Counts.{Counts}
 use Rattle.records.specs.Places.{typesFrom, availableFrom}
-use Rattle.sheet.specs.Reading.{Looked}
+use Rattle.sheet.specs.Reading.{Looked, Stored}
 use Rattle.zeroable.specs.Memo.{Memo}
 use Rattle.writer.specs.declared.Writer.{Writer}
 use Rattle.writer.specs.Cost.{Cost, nothing, recordCost}
@@ -33,12 +33,12 @@ entryCost rank n = pick (ltb 2 rank) (recordCost n) nothing
 abbrev pub costAt : List ℕ → Cost
 costAt rest = entryCost (tagRank (recordAt rest .tag)) (length (recordAt rest .body) + 3)
 
--- what a turn asks: something was read before, the memo speaks of its types, and there is room for the record if it passes
+-- what a turn asks: something was read before and stands in the slices, the memo speaks of its types, and there is room for the
+-- record if it passes
 pub record Ready (s rs ts : List ℕ) (k : Counts) (rest T S m : List ℕ) (w : Writer) : Type 0 where
   pub seen : Seen
   pub before : Before s rs ts k seen
-  pub remaps : k .remaps ≤ length rs
-  pub types : k .types ≤ length ts
+  pub stored : Stored s rs ts k
   pub few : k .types ≤ 256
   pub small : length rest ≤ 16384
   pub memo : Memo (typesFrom s ts (k .types)) m

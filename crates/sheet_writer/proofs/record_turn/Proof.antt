@@ -2,6 +2,7 @@
 use Rattle.sheet_writer.proofs.Turns.{read-first, then-fits}
 use denote.Ref.{now}
 use mathlib.Core.Path.{sym, _∙_}
+use native.Mathlib.Omega.{arith}
 use borrow.Author.Needs.{needs}
 use Rattle.sheet_writer.proofs.record_turn.Statement.{statement}
 use Rattle.sheet_writer.proofs.record_turn.Tie as tie
@@ -12,7 +13,7 @@ returns c = let a = c .before .before .before .before .before .before .before .b
 
 fitness-test-requires : tie.Need-fitness-test-requires
 fitness-test-requires c κs = let r = c .before .before .before .record-test in
-    (record { seen = c .before .before .before .before .before .before .before .before .before .before .before .pre .seen; before = c .before .before .before .before .before .before .before .before .before .before .before .pre .before; tested = sym (r .ensures (c .before .before .before .before .before .before .before .before .before .before .before .pre .seen) (c .before .before .before .before .before .before .before .before .before .before .before .pre .before .looked)) ∙ c .before .before .if1 .left }, (c .before .before .before .before .before .before .before .before .before .before .before .pre .types, (c .before .before .before .before .before .before .before .before .before .before .before .pre .small, (c .before .before .before .before .before .before .before .before .before .before .before .pre .no-room .rows, c .before .before .before .before .before .before .before .before .before .before .before .pre .memo))))
+    (record { seen = c .before .before .before .before .before .before .before .before .before .before .before .pre .seen; before = c .before .before .before .before .before .before .before .before .before .before .before .pre .before; tested = sym (r .ensures (c .before .before .before .before .before .before .before .before .before .before .before .pre .seen) (c .before .before .before .before .before .before .before .before .before .before .before .pre .before .looked)) ∙ c .before .before .if1 .left }, (omega (arith, c .before .before .before .before .before .before .before .before .before .before .before .pre .stored .types), (c .before .before .before .before .before .before .before .before .before .before .before .pre .small, (c .before .before .before .before .before .before .before .before .before .before .before .pre .no-room .rows, c .before .before .before .before .before .before .before .before .before .before .before .pre .memo))))
 
 returns-2 : tie.Need-returns-2
 returns-2 c = let a = c .before .before .before .before .before .before .before .before .before .before .before .before .before .before .before .args in let r = c .before .before .before .before .before .before .before .record-test in let f = c .before .before .before .fitness-test in
@@ -21,7 +22,7 @@ returns-2 c = let a = c .before .before .before .before .before .before .before 
 write-entry-requires : tie.Need-write-entry-requires
 write-entry-requires c κs = let r = c .before .before .before .before .before .before .before .before .before .record-test in
     let z = sym (r .ensures (c .before .before .before .before .before .before .before .before .before .before .before .before .before .before .before .before .before .pre .seen) (c .before .before .before .before .before .before .before .before .before .before .before .before .before .before .before .before .before .pre .before .looked)) ∙ c .before .before .before .before .before .before .before .before .if1 .left in
-    (record { seen = c .before .before .before .before .before .before .before .before .before .before .before .before .before .before .before .before .before .pre .seen; before = c .before .before .before .before .before .before .before .before .before .before .before .before .before .before .before .before .before .pre .before; tested = z }, (c .before .before .before .before .before .before .before .before .before .before .before .before .before .before .before .before .before .pre .remaps, (c .before .before .before .before .before .before .before .before .before .before .before .before .before .before .before .before .before .pre .types, (c .before .before .before .before .before .before .before .before .before .before .before .before .before .before .before .before .before .pre .few, (c .before .before .before .before .before .before .before .before .before .before .before .before .before .before .before .before .before .pre .small, c .before .before .before .before .before .before .before .before .before .before .before .before .before .before .before .before .before .pre .room z)))))
+    (record { seen = c .before .before .before .before .before .before .before .before .before .before .before .before .before .before .before .before .before .pre .seen; before = c .before .before .before .before .before .before .before .before .before .before .before .before .before .before .before .before .before .pre .before; tested = z }, (c .before .before .before .before .before .before .before .before .before .before .before .before .before .before .before .before .before .pre .stored .remaps, (omega (arith, c .before .before .before .before .before .before .before .before .before .before .before .before .before .before .before .before .before .pre .stored .types), (c .before .before .before .before .before .before .before .before .before .before .before .before .before .before .before .before .before .pre .few, (c .before .before .before .before .before .before .before .before .before .before .before .before .before .before .before .before .before .pre .small, c .before .before .before .before .before .before .before .before .before .before .before .before .before .before .before .before .before .pre .room z)))))
 
 returns-3 : tie.Need-returns-3
 returns-3 c = let a = c .before .before .before .before .before .before .before .before .before .before .before .before .before .before .before .before .before .before .before .before .before .before .args in let r = c .before .before .before .before .before .before .before .before .before .before .before .before .before .before .record-test in let f = c .before .before .before .before .before .before .before .before .before .before .fitness-test in let v = c .before .before .before .before .write-entry in

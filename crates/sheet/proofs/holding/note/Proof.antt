@@ -11,15 +11,15 @@ returns c = simp (c .before .before .before .before .match .keys1, ← c .before
 
 returns-2 : tie.Need-returns-2
 unfolding notedAt
-returns-2 c = simp (c .before .before .before .before .match .keys2, ← c .before .before .put2 .ensures)
+returns-2 c = simp (c .before .before .before .before .match .keys2, ← c .before .before .note-type .ensures)
 
 returns-3 : tie.Need-returns-3
 unfolding notedAt
-returns-3 c = simp (c .before .before .before .before .match .keys3, ← c .before .before .put3 .ensures)
+returns-3 c = simp (c .before .before .before .before .match .keys3, ← c .before .before .put2 .ensures)
 
 returns-4 : tie.Need-returns-4
 unfolding notedAt
-returns-4 c = simp (c .before .before .before .before .match .keys4, ← c .before .before .put4 .ensures)
+returns-4 c = simp (c .before .before .before .before .match .keys4, ← c .before .before .put3 .ensures)
 
 returns-5 : tie.Need-returns-5
 unfolding notedAt
