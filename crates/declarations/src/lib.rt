@@ -14,9 +14,13 @@ const TINY: usize = 128;
 
 const TINY_RECORDS: usize = 43;
 
-const SMALL: usize = 2048;
+const SMALL: usize = 1280;
 
-const SMALL_RECORDS: usize = 576;
+const SMALL_RECORDS: usize = 427;
+
+const MIDDLE: usize = 4096;
+
+const MIDDLE_RECORDS: usize = 576;
 
 const LARGE: usize = 16384;
 
@@ -137,17 +141,34 @@ fn answers_tiny(sheet: &[u8], words: &mut [u32], index: usize) -> Answers
 }
 
 fn answers_small(sheet: &[u8], words: &mut [u32], index: usize) -> Answers
-    requires { ⌜ length (now sheet) ≤ 2048 ⌝ }
+    requires { ⌜ length (now sheet) ≤ 1280 ⌝ }
     ensures { λ r. ⌜ Answered (now (sheet .entry)) (now (words .entry)) index r (now (words .exit)) ⌝ }
 {
-    let mut tables = [0u64; 15872];
-    let mut sections = [0u32; 14336];
+    let mut tables = [0u64; 11528];
+    let mut sections = [0u32; 8960];
     answers_in(
         sheet,
         &mut tables,
         &mut sections,
         SMALL_RECORDS,
         SMALL,
+        words,
+        index,
+    )
+}
+
+fn answers_middle(sheet: &[u8], words: &mut [u32], index: usize) -> Answers
+    requires { ⌜ length (now sheet) ≤ 4096 ⌝ }
+    ensures { λ r. ⌜ Answered (now (sheet .entry)) (now (words .entry)) index r (now (words .exit)) ⌝ }
+{
+    let mut tables = [0u64; 17920];
+    let mut sections = [0u32; 28672];
+    answers_in(
+        sheet,
+        &mut tables,
+        &mut sections,
+        MIDDLE_RECORDS,
+        MIDDLE,
         words,
         index,
     )
@@ -184,6 +205,12 @@ fn answers_class(class: u8, sheet: &[u8], words: &mut [u32], index: usize) -> An
             return answers_small(sheet, words, index);
         }
         return answers_class(2, sheet, words, index);
+    }
+    if class == 2 {
+        if sheet.len() <= MIDDLE {
+            return answers_middle(sheet, words, index);
+        }
+        return answers_class(3, sheet, words, index);
     }
     answers_large(sheet, words, index)
 }

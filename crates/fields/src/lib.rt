@@ -4,10 +4,11 @@ mod utf8;
 
 pub use utf8::is_utf8;
 ghost use mathlib.Core.Path.{_≡_};
+ghost use mathlib.Core.Bool.{true};
 ghost use Prim.Native.Nat.{_+_, _<_, _≤_, _^_};
 ghost use lib.ListN.{length, take, drop};
 ghost use Rattle.definition.specs.Bytes.{u8At, u16At, u32At, u64At, nameAt, nameEnd};
-ghost use Rattle.definition.specs.Utf8.{noZero, nameFits};
+ghost use Rattle.definition.specs.Utf8.{utf8, noZero, nameFits};
 
 pub fn u8_at(s: &[u8], i: usize) -> u8
     ensures { λ r. ⌜ r ≡ u8At (now (s .entry)) i ⌝ }
@@ -98,6 +99,24 @@ pub fn no_zero(s: &[u8]) -> bool
     true
 }
 
+// Whether every byte of s is a character of its own, and none is 0. Nearly all names are such, and one look at each byte tells.
+fn is_plain(s: &[u8]) -> bool
+    ensures { λ r. ⌜ (r ≡ true → (utf8 (now (s .entry)) ≡ true) × (noZero (now (s .entry)) ≡ true)) ⌝ }
+{
+    let mut i = 0;
+    while i < s.len() {
+        let b = s[i];
+        if b == 0 {
+            return false;
+        }
+        if 0x7F < b {
+            return false;
+        }
+        i += 1;
+    }
+    true
+}
+
 // Whether the name that starts at i is none, or is UTF-8 without a zero byte. Its bytes are handed on as a part of s.
 pub fn name_fits(s: &[u8], i: usize) -> bool
     requires { ⌜ i < 2 ^ 63 ⌝ }
@@ -108,6 +127,9 @@ pub fn name_fits(s: &[u8], i: usize) -> bool
         return true;
     }
     let name = part(s, i + 1, n as usize);
+    if is_plain(name) {
+        return true;
+    }
     let text = is_utf8(name);
     let clean = no_zero(name);
     text && clean

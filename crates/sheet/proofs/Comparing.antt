@@ -2,7 +2,7 @@
 -- last of them decides or those before it do. What is the same is the same up to any place.
 use Prim.Native.Nat.{ℕ, zero, suc, _+_, _-_, _*_, _≤_, _<_}
 use mathlib.Core.Path.{_≡_, refl, ap, sym, subst, _∙_}
-use mathlib.Core.Bool.{Bool, true, false}
+use mathlib.Core.Bool.{Bool, true, false, false≢true}
 use mathlib.Core.List.{List, [], _∷_}
 use native.Mathlib.Decide.{ℕ-discrete}
 use native.Mathlib.Nat.{add-zero, add-suc, not-suc-le-zero}
@@ -15,9 +15,6 @@ use Rattle.definition.specs.Bytes.{u16At, u32At}
 use Rattle.definition.specs.Choice.{pick}
 use Rattle.definition.specs.Tests.{sameBytes}
 use Rattle.sheet.specs.Reading.{bytesAt}
-
-pub never : {A : Type 0} → false ≡ true → A
-never e = absurd (let z : _≡_ {A = ℕ} 0 1 = cc in omega arith)
 
 pick-no : (a : Bool) → pick a false false ≡ false
 pick-no true = refl
@@ -52,7 +49,7 @@ part-differs a b q e = go (sameBytes a b) refl
   where
     go : (c : Bool) → sameBytes a b ≡ c → sameBytes a b ≡ false
     go false f = f
-    go true f = never (sym e ∙ prefix a b q f)
+    go true f = absurd (false≢true (sym e ∙ prefix a b q f))
 
 pub whole : (a b : List ℕ) (q : ℕ) → length a ≤ q → length b ≤ q → sameBytes (take q a) (take q b) ≡ sameBytes a b
 whole a b q la lb = rw (take-all q a la, take-all q b lb)

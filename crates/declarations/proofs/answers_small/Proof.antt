@@ -1,13 +1,13 @@
 -- The scratch is enough for the class.
 use lib.ListN.{length-replicate}
-use mathlib.Core.Logic.{inr}
+use mathlib.Core.Logic.{inl}
 use native.Mathlib.Omega.{arith}
 use borrow.Author.Needs.{needs}
 use Rattle.declarations.proofs.answers_small.Statement.{statement}
 use Rattle.declarations.proofs.answers_small.Tie as tie
 
 answers-in-requires : tie.Need-answers-in-requires
-answers-in-requires c κs = record { for-bytes = λ h. omega arith; for-records = inr (omega arith); tables = simp length-replicate (omega arith); sections = simp length-replicate (omega arith); few = omega arith }
+answers-in-requires c κs = record { for-bytes = λ h. omega arith; for-records = inl (omega arith); tables = simp length-replicate (omega arith); sections = simp length-replicate (omega arith); few = omega arith }
 
 pub answers-small-spec : {M : Type 1} → statement M
 answers-small-spec =
