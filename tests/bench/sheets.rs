@@ -183,7 +183,7 @@ const FACTOR: u32 = 2_654_435_761;
 
 /// Eight bytes for each of so many names, of which no two are the same. Where they are two words of a
 /// body, the hash is the same: what the first word adds, the second takes away.
-fn one_hash(count: usize) -> Vec<[u8; 8]> {
+fn eights_of_one_hash(count: usize) -> Vec<[u8; 8]> {
     let sum = |first: u32, second: u32| first.wrapping_mul(FACTOR).wrapping_add(second);
     let all = sum(u32::from_be_bytes(*b"nnnn"), u32::from_be_bytes(*b"nnnn"));
     let graphic = |word: u32| word.to_be_bytes().iter().all(u8::is_ascii_graphic);
@@ -193,6 +193,14 @@ fn one_hash(count: usize) -> Vec<[u8; 8]> {
             graphic(second).then(|| (first as u64) << 32 | second as u64)
         });
     words.map(u64::to_be_bytes).take(count).collect()
+}
+
+/// A type whose name holds those eight bytes. The length byte and three bytes of a name are the
+/// first word of the body, so that the next two words are bytes 3 to 10 of the name.
+fn with_eight(eight: [u8; 8], length: usize, inner: Inner) -> Record {
+    let mut name = vec![b'n'; length];
+    name[3..11].copy_from_slice(&eight);
+    Record::Type(Type { name: Some(name), inner })
 }
 
 /// What could take long, each with what it is.
@@ -273,15 +281,9 @@ pub fn worst() -> Vec<(&'static str, Vec<u8>)> {
     };
     add("256 scalars alike but for the first bytes of long names", fill(vec![], 256, alike(true)));
     add("256 scalars alike but for the last bytes of long names", fill(vec![], 256, alike(false)));
-    // Types of one hash are told apart byte by byte. The length byte and three bytes of a name are
-    // the first word of the body, so that the next two words are bytes 3 to 10 of the name.
-    let eights = one_hash(256);
-    let one_hash = |n: usize, length: usize, inner: Inner| {
-        let mut name = vec![b'n'; length];
-        name[3..11].copy_from_slice(&eights[n]);
-        Record::Type(Type { name: Some(name), inner })
-    };
-    let scalars = |n: usize| one_hash(n, 54, scalar(FLOAT));
+    // Types of one hash are told apart byte by byte.
+    let eights = eights_of_one_hash(256);
+    let scalars = |n: usize| with_eight(eights[n], 54, scalar(FLOAT));
     add("256 scalars of one hash, alike but for eight bytes of names", fill(vec![], 256, scalars));
     // The offsets of the fifth and of the ninth member are words of the body, seven apart.
     let nine = |n: usize| {
@@ -350,7 +352,7 @@ pub fn worst() -> Vec<(&'static str, Vec<u8>)> {
     );
     // Both at once: a long list, and types of one hash.
     let one_shape = Inner::Image { dim: D1, arrayed: 0, class: STORED, first: 1, second: 3 };
-    let images = |n: usize| one_hash(n, 39, one_shape.clone());
+    let images = |n: usize| with_eight(eights[n], 39, one_shape.clone());
     add(
         "256 images of one hash, alike but for eight bytes of names, 1,002 capabilities",
         fill(available(1_000), 256, images),
@@ -441,6 +443,9 @@ pub fn refused() -> Vec<(&'static str, Vec<u8>, u64)> {
     let mut records = fill(vec![unnamed(scalar(FLOAT))], 254, small);
     records.push(small(253));
     let repeated = sheet(records);
+    let mut eights = eights_of_one_hash(255);
+    eights.push(eights[0]);
+    let one_hash = sheet(fill(vec![], 256, |n| with_eight(eights[n], 54, scalar(FLOAT))));
     let image = |n: usize| {
         unnamed(Inner::Image { dim: 2, arrayed: 0, class: STORED, first: n as u8, second: 0 })
     };
@@ -457,6 +462,7 @@ pub fn refused() -> Vec<(&'static str, Vec<u8>, u64)> {
     vec![
         ("the full sheet with start 4,194,302", full, 15),
         ("256 types, the last as the one before", repeated, 12),
+        ("256 types of one hash, the last as the first", one_hash, 12),
         ("3,481 capabilities, the last image's missing", sheet(records), 14),
     ]
 }

@@ -205,15 +205,19 @@ static size_t stack_of(char *stack, struct call *call) {
     return (size_t)(call->from - lowest);
 }
 
+/* Sheets go by classes, each with its own stack (crates/declarations); the last class takes all others too. */
+enum { CLASSES = 4 };
+static const size_t class_ends[CLASSES] = {128, 1280, 4096, 16384};
+
 static void measure(int count, char **paths) {
     static struct sheet sheet;
     char *pages = mmap(NULL, PAGE + STACK, PROT_READ | PROT_WRITE, MAP_PRIVATE | MAP_ANONYMOUS, -1, 0);
     if (pages == MAP_FAILED || mprotect(pages, PAGE, PROT_NONE)) give_up("stack", "no memory for it");
-    /* by class of sheet: up to 128 bytes, up to 2,048, and longer */
-    size_t most[3][3] = {{0}}, files[3] = {0};
+    size_t most[CLASSES][3] = {{0}}, files[CLASSES] = {0};
     for (int i = 0; i < count; i++) {
         read_sheet(paths[i], &sheet);
-        int class = sheet.length <= 128 ? 0 : sheet.length <= 2048 ? 1 : 2;
+        int class = 0;
+        while (class + 1 < CLASSES && sheet.length > class_ends[class]) class++;
         files[class]++;
         for (int operation = 0; operation < 3; operation++) {
             struct call call = {&sheet, operation, NULL};
@@ -226,12 +230,12 @@ static void measure(int count, char **paths) {
             }
         }
     }
-    static const char *const classes[] = {"up to 128 bytes", "up to 2,048 bytes", "longer"};
     printf("| sheets | of them | Check, bytes of stack | Declare | Wrapped |\n|---|---|---|---|---|\n");
-    for (int class = 0; class < 3; class++)
-        printf("| %s | %zu | %zu | %zu | %zu |\n", classes[class], files[class], most[class][0], most[class][1],
-               most[class][2]);
-    if (!files[0] || !files[1] || !files[2]) give_up("stack", "there must be a sheet of each kind");
+    for (int class = 0; class < CLASSES; class++) {
+        printf("| up to %zu bytes | %zu | %zu | %zu | %zu |\n", class_ends[class], files[class], most[class][0],
+               most[class][1], most[class][2]);
+        if (!files[class]) give_up("stack", "there must be a sheet of each class");
+    }
 }
 
 int main(int count, char **arguments) {

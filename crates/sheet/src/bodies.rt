@@ -1,5 +1,5 @@
-// Two bodies compared: the bytes of both from the last to the first, since types of one tag tend to differ in their last
-// fields, and four at a time where there are four.
+// Two bodies of one hash compared: the bytes of a part from the last to the first, four at a time where there are four, so that
+// even 256 types that were drawn to have one hash are soon told apart.
 ghost use mathlib.Core.Path.{_≡_};
 ghost use mathlib.Core.Bool.{true, false};
 ghost use Prim.Native.Nat.{_≤_};
