@@ -1,15 +1,14 @@
 -- What the loop and the last stage come to is what the definition says: the answer and the buffer of Declare, then demands 1 and
 -- 3 of them, which are theorems about the definition. Check is a Declare whose buffer is too short; Wrapped reads what was read.
-use Prim.Native.Nat.{ℕ, zero, suc, _+_, _≤_, _<_}
+use Prim.Native.Nat.{ℕ, zero, suc, _≤_, _<_}
 use mathlib.Core.Path.{_≡_, refl, sym, ap, _∙_, subst}
 use mathlib.Core.Logic.{_⊎_, inl, inr}
-use mathlib.Core.Bool.{Bool, true, false}
+use mathlib.Core.Bool.{Bool, true}
 use mathlib.Core.List.{List, [], _∷_, map, List·Memᴰ, List·Memᴰ·not-nil, List·Memᴰ·cases-cons}
 use native.Mathlib.Omega.{arith}
 use native.Mathlib.Nat.{not-suc-le-zero}
 use borrow.Author.Tests.{le-leb, lt-leb, lt-ltb, le-ltb, eq-eqb, ne-eqb}
 use lib.ListN.{length, getD, take, replicate, length-map, length-take, length-replicate}
-use Rattle.definition.specs.Choice.{pick}
 use Rattle.definition.specs.Sheet.{Global, global}
 use Rattle.definition.specs.State.{State, boundOf, moduleWords}
 use Rattle.definition.specs.Tests.{Seen, Judged, refused, fit, valuesFit}
@@ -29,7 +28,7 @@ use Rattle.entries.specs.Globals.{TakenFrom}
 use Rattle.writer.specs.declared.Writer.{Writer}
 use Rattle.sheet_writer.specs.declared.Outcome.{Outcome}
 use Rattle.sheet_writer.specs.declared.Outcome.the-variants.{Refused, Fit}
-use Rattle.sheet_writer.specs.Whole.{beforeBound, Capacity, Fits, CameTo}
+use Rattle.sheet_writer.specs.Whole.{beforeBound, Capacity, CameTo}
 use Rattle.module_layout.specs.declared.Answer.{Answer}
 use Rattle.module_layout.specs.declared.Answer.the-variants.{Written as Wrote, Refused as Refuses}
 use Rattle.module_layout.specs.Finished.{answerOf, declaredAs, Worded, Roomy, Finished}

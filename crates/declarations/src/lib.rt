@@ -88,7 +88,8 @@ fn wrapping_of(sheet: &[u8], types: &[u32], globals: &[u32], o: Outcome, index: 
     }
 }
 
-// The whole, over lent tables and sections.
+// The whole, over lent tables and sections. As many places are kept of each kind as a sheet may have, and behind those of the
+// types as many hashes.
 fn answers_in(
     sheet: &[u8],
     tables: &mut [u64],

@@ -17,7 +17,7 @@ use Rattle.definition.specs.Literals.{Literal, f64, f32, u32, i32, boole
 use Rattle.definition.specs.Shapes.{Shape, Key, sameKey, inner, sized, rank, rankOf, typeOf, float}
 use Rattle.definition.specs.Shapes.{scalar, vector, matrix, pointer, valuePointer, image, sampler, accelerationStructure, rayQuery, bindingArray, bindingPointer, entry, shape, one, many}
 use Rattle.definition.specs.State.{Constants, State, Got, lookup, same, takeId, enter, withConstants, declare, declareWith}
-use Rattle.definition.specs.Finding.{capabilitiesOf, literalKind, literalOp, enterLiteral, orNewValue, literalWith, innerGot, lengthGot, newKey, orNewKey, findAt, find, literal}
+use Rattle.definition.specs.Finding.{capabilitiesOf, literalKind, literalOp, enterLiteral, orNewValue, literalWith, innerGot, lengthGot, newKey, orNewKey, findAt, find}
 use Rattle.definition.specs.WellDeclared.{times, once, EqualTypes, plainType, needs}
 use Rattle.definition.proofs.Lists.{last-in, snoc-cases, same-itself, times-snoc, times-in, lookup-in, lookup-out}
 use Rattle.definition.proofs.Sizes.{W, Under, Sized, SmallKind, SmallShape}

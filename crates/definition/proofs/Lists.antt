@@ -9,7 +9,7 @@ use mathlib.Core.Bool.{Bool, true, false}
 use native.Mathlib.Omega.{arith}
 use lib.ListN.{length, getD, getElem?}
 use lib.Dec.{eqb, leb, eqb→eq, leb→le, nleb→lt}
-use borrow.Author.Tests.{eq-eqb, ne-eqb, le-leb, lt-leb}
+use borrow.Author.Tests.{eq-eqb, le-leb, lt-leb}
 use Rattle.definition.specs.Choice.{pick}
 use Rattle.definition.specs.Instructions.{Instruction}
 use Rattle.definition.specs.State.{lookup, same, occurrences, listed, listOne}
@@ -29,9 +29,6 @@ snoc-cases {A = A} {a} {b} xs m = go (List·Memᴰ·append-cases xs m)
 -- a number is itself
 pub same-itself : (i : ℕ) → same i i ≡ 1
 same-itself i = rw (eq-eqb i i refl)
-
-pub same-other : (i j : ℕ) → (i ≡ j → ⊥) → same i j ≡ 0
-same-other i j n = rw (ne-eqb i j n)
 
 pub same-cases : (i j : ℕ) → (same i j ≡ 0) ⊎ ((i ≡ j) × (same i j ≡ 1))
 same-cases i j = go (eqb i j) refl

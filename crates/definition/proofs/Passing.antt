@@ -12,7 +12,7 @@ use Rattle.definition.specs.Bytes.{u8At, u16At, nameAt, nameEnd}
 use Rattle.definition.specs.Utf8.{nameFits}
 use Rattle.definition.specs.Literals.{Literal}
 use Rattle.definition.specs.Sheet.{Record, TypeInner, TypeEntry, Expression, Global, Entry, Fields, u16sAt, membersAt, typeFields, formOf, literalFields, constantFields, globalFields, remapFields, mapFields, typeEntry, tagRank, entryOf}
-use Rattle.definition.specs.Sheet.{Compose, available, remap, type, constant, global}
+use Rattle.definition.specs.Sheet.{available, remap, type, constant, global}
 use Rattle.definition.specs.Tests.{Seen, placeTest, formKnown, memberNames, innerNames, namesOf, valuesFit, innerTypes, expressionTypes, expressionConstants, typesNamed, constantsNamed, initList, below, readAlready, entryTest, readingTest}
 use Rattle.definition.proofs.Truth.{both-true, every-one, pick-for, first-passed, unless-passed}
 use Rattle.definition.proofs.Sizes.{W, Under}

@@ -1,6 +1,6 @@
 -- Demand 3 says something: wrong modules that it turns down, each by the clause meant for it, and a name that has no reading
 -- without its closing zero.
-use Prim.Native.Nat.{ℕ, zero}
+use Prim.Native.Nat.{ℕ}
 use mathlib.Core.Path.{_≡_, refl, ap}
 use mathlib.Core.List.{List, [], _∷_, List·Memᴰ·head, List·Memᴰ·eq-of-singleton}
 use mathlib.Core.Option.{some, none}
@@ -11,7 +11,7 @@ use lib.ListN.{getD}
 use Rattle.definition.specs.Instructions.{Instruction, capability, typeFloat, typeInt, typeVector, decorate}
 use Rattle.definition.specs.Numbers.{CapabilityInt8, DecorationArrayStride}
 use Rattle.definition.specs.Reader.{uses, readModule, readAll, isString}
-use Rattle.definition.specs.Shapes.{Key, entry, shape, scalar, float, kindOf, sameKey}
+use Rattle.definition.specs.Shapes.{Key, entry, scalar, float, kindOf, sameKey}
 use Rattle.definition.specs.Sheet.{TypeInner, TypeEntry, Scalar, Atomic}
 use Rattle.definition.specs.State.{State, occurrences, lookup, idOf}
 use Rattle.definition.specs.WellDeclared.{WellDeclared, EntriesDeclared, Declares, alone, over, times, targets, targetOf, needs, needed, listedIn, listedBy}

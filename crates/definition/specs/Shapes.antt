@@ -1,6 +1,5 @@
 -- Shapes of types and keys ("Rules", the paragraph on ids), and the instruction that declares a shape.
 use Prim.Native.Nat.{ℕ, _*_}
-use mathlib.Core.Bool.{Bool}
 use mathlib.Core.List.{List, [], _∷_}
 use mathlib.Core.Option.{Option, some, none}
 use native.Mathlib.Decide.{ℕ-discrete}

@@ -1,7 +1,6 @@
 -- Answers as numbers, for callers that know no enum of Rattle's.
 use Prim.Native.Nat.{ℕ, _+_, _*_, _%_}
 use mathlib.Core.Path.{_≡_}
-use mathlib.Core.Bool.{Bool, true, false}
 use mathlib.Core.List.{List}
 use Rattle.definition.specs.Choice.{pick}
 use Rattle.definition.specs.Operations.{Verdict, Answer, Written, Wrapping, Wraps, declare}

@@ -1,17 +1,16 @@
 -- A literal's type and its instruction, by its form: one case a form, and in each the definition computes. The ids stand in the
 -- words modulo 2^32, so the words put are those of the definition's instruction, each taken so.
-use Prim.Native.Nat.{ℕ, zero, suc, _+_, _*_, _≤_, _<_, _%_, _/_}
+use Prim.Native.Nat.{ℕ, _≤_, _<_, _%_, _/_}
 use mathlib.Core.Path.{_≡_, refl, sym, ap, _∙_}
 use mathlib.Core.Bool.{Bool, true, false}
 use mathlib.Core.List.{List, [], _∷_, map}
 use native.Mathlib.Omega.{arith}
 use lib.Dec.{eqb}
 use lib.ListN.{getD}
-use borrow.Author.Tests.{eq-eqb, ne-eqb}
 use Rattle.definition.specs.Choice.{pick}
 use Rattle.definition.specs.Literals.{Literal, f64, f32, u32, i32, boolean, literalWords}
-use Rattle.definition.specs.Instructions.{Instruction, words, plain}
-use Rattle.definition.specs.Shapes.{Kind, sint, uint, float, bool, kindOf}
+use Rattle.definition.specs.Instructions.{words, plain}
+use Rattle.definition.specs.Shapes.{sint, uint, float, bool, kindOf}
 use Rattle.definition.specs.Finding.{literalKind, literalOp}
 use Rattle.literals.specs.Forms.{formOf, bitsOf}
 use Rattle.writer.specs.declared.Writer.{Writer}

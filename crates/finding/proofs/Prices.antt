@@ -1,6 +1,6 @@
 -- What a shape names costs less than the shape does, by a length and its own instruction at most; and a room that
 -- holds more holds less.
-use Prim.Native.Nat.{ℕ, suc, _+_, _*_, _≤_}
+use Prim.Native.Nat.{ℕ, suc, _≤_}
 use mathlib.Core.Path.{_≡_, refl}
 use mathlib.Core.Option.{some, none}
 use native.Mathlib.Omega.{arith}

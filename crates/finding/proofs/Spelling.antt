@@ -1,15 +1,12 @@
 -- A shape's instruction, its ids taken as words: all its other numbers are words already.
-use Prim.Native.Nat.{ℕ, zero, suc, _+_, _*_, _≤_, _<_, _%_}
-use mathlib.Core.Path.{_≡_, refl, ap, _∙_}
-use mathlib.Core.Bool.{Bool, true, false}
-use mathlib.Core.List.{List, [], _∷_, _++_, map}
+use Prim.Native.Nat.{ℕ, _+_, _*_, _≤_, _<_}
+use mathlib.Core.Path.{_≡_, refl}
+use mathlib.Core.List.{[], _∷_, map}
 use native.Mathlib.Omega.{arith}
-use lib.Dec.{eqb}
 use lib.ListN.{length}
-use Rattle.definition.specs.Choice.{pick}
 use Rattle.definition.specs.Instructions.{words}
-use Rattle.definition.specs.Shapes.{Kind, Shape, Key, storageClass, typeOf}
-use Rattle.definition.specs.Shapes.{sint, uint, float, bool, one, many, scalar, vector, matrix, pointer, valuePointer, image, sampler, accelerationStructure, rayQuery, bindingArray, bindingPointer, entry, shape}
+use Rattle.definition.specs.Shapes.{Shape, storageClass, typeOf}
+use Rattle.definition.specs.Shapes.{sint, uint, float, bool, one, many, scalar, vector, matrix, pointer, valuePointer, image, sampler, accelerationStructure, rayQuery, bindingArray, bindingPointer}
 use Rattle.definition.proofs.Inners.{class-small}
 use Rattle.lookup.specs.Packed.{SmallShape}
 use Rattle.writer.specs.Rows.{low}

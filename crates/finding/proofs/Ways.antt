@@ -1,13 +1,11 @@
 -- The ways out of finding and declaring, each from what the callees leave: what was sought is there already, or a new id
 -- is taken, what it names is found, its instruction is put and it is entered. The definition does the same steps to the
 -- state, so each way is a chain of the callees' promises.
-use Prim.Native.Nat.{ℕ, zero, suc, _+_, _*_, _≤_, _<_}
+use Prim.Native.Nat.{ℕ, zero, suc, _+_}
 use mathlib.Core.Path.{_≡_, refl, sym, ap, _∙_, subst}
 use mathlib.Core.List.{List, [], _∷_, _++_, map}
 use mathlib.Core.Option.{Option, some, none}
-use native.Mathlib.Decide.{ℕ-discrete}
 use native.Mathlib.Omega.{arith}
-use lib.ListN.{length}
 use Rattle.definition.specs.Literals.{Literal, u32, sameLiteral}
 use Rattle.definition.specs.Instructions.{Instruction, words, plain, constantNull}
 use Rattle.definition.specs.Shapes.{Shape, Key, sameKey, inner, sized, rank, rankOf, typeOf, uint, scalar, entry, shape}
@@ -28,7 +26,7 @@ use Rattle.writer.specs.Cost.{Cost, declaring}
 use Rattle.writer.specs.Held.{Held, RoomFor, Grown}
 use Rattle.writer.specs.Steps.{Kept, Gives, GotBy, Took, FindsType, FindsLiteral, FindsNull, EnteredType, EnteredLiteral, EnteredNull, noteNull, Adds, Puts, Listed, listing}
 use Rattle.writer.proofs.Words.{adds-put}
-use Rattle.finding.specs.Costs.{longer, own, within, costOf, literalCost, nullCost}
+use Rattle.finding.specs.Costs.{longer, within, costOf, literalCost, nullCost}
 use Rattle.finding.specs.Found.{below, shapeDeclared, ShapePut}
 use Rattle.finding.proofs.Spelling.{type-low, type-few}
 use Rattle.finding.proofs.Prices.{inner-rank, inner-price, sized-rank, sized-price, bare}

@@ -13,10 +13,10 @@ use spirv::helpers::map_storage_class;
 ghost use mathlib.Core.Path.{_≡_};
 ghost use mathlib.Core.List.{List};
 ghost use Prim.Native.Nat.{ℕ};
-ghost use Rattle.definition.specs.Shapes.{storageClass, dimOf, imageOf, shapeOf as definedShape, countOf as definedCount, kindOf, image, float, scalar};
-ghost use Rattle.kinds.specs.Numbers.{flagNumber, kindNumber, spaceNumber, dimensionNumber, classNumber, classFirst, classSecond};
+ghost use Rattle.definition.specs.Shapes.{storageClass, dimOf, imageOf, shapeOf as definedShape, countOf as definedCount};
+ghost use Rattle.kinds.specs.Numbers.{flagNumber, spaceNumber, dimensionNumber, classNumber, classFirst, classSecond};
 ghost use Rattle.entries.specs.Types.{innerOf};
-ghost use Rattle.lookup.specs.Local.{shapeOf, countOf};
+ghost use Rattle.lookup.specs.Local.{countOf};
 ghost use Rattle.locals.specs.Made.{madeOf, formatCode, imageShape};
 
 // `Option<LocalType>`: an aggregate is declared under its entry alone.

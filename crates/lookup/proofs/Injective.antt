@@ -3,13 +3,12 @@
 -- for each shape. So equal numbers are of equal keys, and comparing numbers decides what the definition's `sameKey` decides.
 use Prim.Native.Nat.{ℕ, _+_, _*_, _/_, _%_, _<_}
 use mathlib.Core.Path.{_≡_, refl, sym, ap, _∙_}
-use mathlib.Core.Bool.{Bool, true, false, decide}
+use mathlib.Core.Bool.{Bool, true, false}
 use native.Mathlib.Omega.{arith}
 use native.Mathlib.Nat.{add-mul-mod-self-left, add-mul-div-left, mod-eq-of-lt, div-eq-of-lt, zero-add}
-use borrow.Author.Tests.{eq-eqb, ne-eqb}
 use lib.Dec.{eqb}
 use Rattle.definition.specs.Choice.{pick}
-use Rattle.definition.specs.Shapes.{Kind, Shape, Key, sameKey, sint, uint, float, bool, one, many, scalar, vector, matrix, pointer, valuePointer, image, sampler, accelerationStructure, rayQuery, bindingArray, bindingPointer, entry, shape}
+use Rattle.definition.specs.Shapes.{Kind, Shape, Key, sint, uint, float, bool, one, many, scalar, vector, matrix, pointer, valuePointer, image, sampler, accelerationStructure, rayQuery, bindingArray, bindingPointer, entry, shape}
 use Rattle.lookup.specs.Packed.{code, bytesKey, baseKey, packedShape, packed, Bytes, Base, SmallShape, Small}
 
 -- ---- the key of a number
@@ -105,12 +104,3 @@ back (shape l) h = shape-back l h
 -- equal numbers, equal keys
 pub injective : (a b : Key) → Small a → Small b → packed a ≡ packed b → a ≡ b
 injective a b ha hb e = sym (back a ha) ∙ ap keyFrom e ∙ back b hb
-
--- two keys' numbers are equal exactly if the definition says that the keys are
-pub same-packed : (a b : Key) → Small a → Small b → eqb (packed a) (packed b) ≡ decide (sameKey a b)
-unfolding decide
-same-packed a b ha hb = go (sameKey a b)
-  where
-    go : (d : Dec (a ≡ b)) → eqb (packed a) (packed b) ≡ decide d
-    go (yes e) = eq-eqb _ _ (ap packed e)
-    go (no n) = ne-eqb _ _ (λ e. n (injective a b ha hb e))

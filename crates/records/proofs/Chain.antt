@@ -26,9 +26,6 @@ stop-ne a b d n x e h = simp (← e, ne-eqb a b h)
 pub go-eq : (a b d n x y : ℕ) → a ≡ d → a ≡ b → y ≡ x → y ≡ unless (eqb d b) n x
 go-eq a b d n x y e h k = simp (← e, eq-eqb a b h) k
 
-pub stop-zero : (a d n x : ℕ) → a ≡ d → a ≡ 0 → n ≡ unless (ltb 0 d) n x
-stop-zero a d n x e h = simp (← e, h)
-
 pub go-pos : (a d n x y : ℕ) → a ≡ d → (a ≡ 0 → ⊥) → y ≡ x → y ≡ unless (ltb 0 d) n x
 go-pos a d n x y e h k = simp (← e, lt-ltb 0 a (omega arith)) k
 

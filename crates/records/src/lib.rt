@@ -1,10 +1,9 @@
 // The sheet's frame: its header, the record at a place, the rank of a tag, and what has been read so far.
 // Decides tests 1 to 7 of document 01; what stands in a record's body is read elsewhere.
 ghost use mathlib.Core.Path.{_≡_};
-ghost use mathlib.Core.Bool.{Bool, true, false};
+ghost use mathlib.Core.Bool.{true, false};
 ghost use Prim.Native.Nat.{_+_, _<_};
 ghost use lib.ListN.{drop};
-ghost use lib.Dec.{ltb};
 ghost use Rattle.definition.specs.Bytes.{u16At};
 ghost use Rattle.definition.specs.Sheet.{recordAt, tagRank};
 ghost use Rattle.definition.specs.Tests.{Seen, headerTest, noRecord, outOfOrder, room, placeTest};

@@ -1,16 +1,14 @@
 -- Test 12. A search for an entry among the first n places, one place a turn: one set of laws for whatever is looked for.
 -- Then two records by their tags and bodies.
-use Prim.Native.Nat.{ℕ, zero, suc, _+_, _-_, _≤_, _<_}
+use Prim.Native.Nat.{ℕ, _+_, _≤_, _<_}
 use mathlib.Core.Path.{_≡_, refl, ap, _∙_}
 use mathlib.Core.Bool.{Bool, true, false, _&&_, and-false}
 use mathlib.Core.List.{List, [], _∷_, map}
-use native.Mathlib.Numerals.{add-one, sub-one}
-use native.Mathlib.Nat.{not-suc-le-zero}
-use native.Mathlib.Omega.{arith}
+use native.Mathlib.Numerals.{add-one}
 use borrow.Author.Tests.{eq-eqb, ne-eqb}
 use lib.Dec.{eqb}
 use lib.ListN.{length, getD, take, drop, drop-of-length-le}
-use lib.Seq.{take-all, take-length, drop-cons, getD-take, length-take-le}
+use lib.Seq.{drop-cons, getD-take, length-take-le}
 use Rattle.definition.specs.Choice.{pick}
 use Rattle.definition.specs.Sheet.{Record, Remap}
 use Rattle.definition.specs.Tests.{sameBytes, sameRecord, typeRead, remapRead}

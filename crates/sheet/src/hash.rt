@@ -4,7 +4,7 @@ ghost use mathlib.Core.Path.{_≡_};
 ghost use Rattle.sheet_fields.specs.Fields.{recordOf};
 ghost use Rattle.sheet.specs.Hash.{hashStep, hashOf};
 
-// One word more. The factor is odd, so that two bodies that differ in one word have different hashes.
+// One word more. The factor is odd, so that bodies of one length that differ in one word alone have different hashes.
 fn hash_step(h: u32, w: u32) -> u32
     ensures { λ r. ⌜ r ≡ hashStep h w ⌝ }
 {

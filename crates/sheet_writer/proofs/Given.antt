@@ -1,8 +1,7 @@
 -- What tests 5 to 12 tell of a record that passed them, by its rank: its entry is read by its kind's fields, they end where
 -- the body does, their values fit and what they name was read.
-use Prim.Native.Nat.{ℕ, _+_, _≤_, _<_}
-use mathlib.Core.Path.{_≡_, sym, ap, _∙_, subst}
-use mathlib.Core.Bool.{Bool, true}
+use mathlib.Core.Path.{_≡_, subst}
+use mathlib.Core.Bool.{true}
 use borrow.Author.Tests.{eqb-true}
 use lib.Dec.{eqb}
 use lib.ListN.{length}

@@ -1,23 +1,22 @@
 -- The loop over the records: some state is held, and what is left of the sheet, from here and with what was read, comes to
 -- what the whole comes to. How the loop begins, one turn, and its ways out, each an instance of the laws for any state.
-use Prim.Native.Nat.{ℕ, _+_, _*_, _-_, _≤_, _<_}
-use mathlib.Core.Path.{_≡_, refl, sym, ap, _∙_, subst}
+use Prim.Native.Nat.{ℕ, _+_, _-_, _≤_, _<_}
+use mathlib.Core.Path.{_≡_, refl, sym, _∙_, subst}
 use mathlib.Core.Bool.{true, false}
-use mathlib.Core.Logic.{_⊎_}
-use mathlib.Core.List.{List, [], _∷_, _++_}
+use mathlib.Core.List.{List, []}
 use native.Mathlib.Omega.{arith}
-use lib.ListN.{length, drop, take, getD, length-drop, length-take}
+use lib.ListN.{length, drop, getD, length-drop}
 use lib.Seq.{length-take-le}
 use Rattle.definition.specs.Bytes.{u16At}
-use Rattle.definition.specs.Sheet.{Record, Entry, Global, recordAt, entryOf, tagRank, startOf, flagsOf, Options, optionsOf, available, remap, type, constant, global}
-use Rattle.definition.specs.Tests.{Seen, Judged, fit, refused, judge, nothing, add, addRecord, headerTest, noRecord, spaceFits, bindingFits, valuesFit, readingTest}
+use Rattle.definition.specs.Sheet.{Entry, Global, recordAt, entryOf, tagRank, startOf, flagsOf, Options, optionsOf, available, remap, type, constant, global}
+use Rattle.definition.specs.Tests.{Seen, refused, add, addRecord, headerTest, noRecord, spaceFits, bindingFits, valuesFit, readingTest}
 use Rattle.definition.specs.State.{State, empty}
 use Rattle.definition.specs.Rules.{declareEntry}
 use Rattle.definition.specs.Operations.{Progress, recordTest, declareRecord, noGlobal}
 use Rattle.definition.proofs.Truth.{first-passed}
 use Rattle.definition.proofs.Lists.{getD-snoc}
 use Rattle.records.specs.declared.Counts.{Counts}
-use Rattle.records.specs.Places.{Places, seenOf, Ample, WithinLimits, recordFrom, typesFrom}
+use Rattle.records.specs.Places.{Places, seenOf, Ample, WithinLimits, recordFrom}
 use Rattle.records.proofs.Places.{header-size, whole}
 use Rattle.records.proofs.Loop.{Going, start, goes-on, next-inside, ends-fit, ends-four, ends-refused, judge-go}
 use Rattle.sheet.specs.Hash.{Hashed}
@@ -26,11 +25,10 @@ use Rattle.sheet.proofs.Adding.{looked, stored, counted, placed-of, rank-most}
 use Rattle.zeroable.specs.Memo.{Memo}
 use Rattle.zeroable.proofs.Kept.{grows, empty as nothing-known}
 use Rattle.writer.specs.declared.Writer.{Writer}
-use Rattle.writer.specs.Cost.{nothing as no-cost}
 use Rattle.writer.specs.Held.{Held, Room, Grown}
 use Rattle.writer.specs.Steps.{fresh}
 use Rattle.sheet_writer.specs.declared.Turn.{Turn}
-use Rattle.sheet_writer.specs.Turning.{Before, Ready, EntryWritten, Turned, costAt}
+use Rattle.sheet_writer.specs.Turning.{Before, Ready, Turned, costAt}
 use Rattle.sheet_writer.specs.Whole.{recordsOf, beforeBound, Capacity, GlobalsFit, Fits}
 use Rattle.sheet_writer.proofs.Given.{told}
 use Rattle.sheet_writer.proofs.Rooms.{Used, no-room, roomy}

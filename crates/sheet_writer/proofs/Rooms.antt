@@ -1,7 +1,7 @@
 -- Room for the next record: what is in use is bounded by the bytes passed and by the records counted, of which each took three
 -- bytes at least, and what the caller lends is enough for the sheet's bytes and for as many records as a sheet can have.
 use Prim.Native.Nat.{ℕ, _+_, _*_, _≤_, _<_}
-use mathlib.Core.Path.{_≡_, sym}
+use mathlib.Core.Path.{_≡_}
 use mathlib.Core.Bool.{true}
 use mathlib.Core.Logic.{_⊎_, ⊎-elim}
 use mathlib.Core.List.{List}

@@ -5,7 +5,7 @@ use mathlib.Core.List.{List}
 use lib.Dec.{ltb}
 use lib.ListN.{length}
 use Rattle.definition.specs.Choice.{pick}
-use Rattle.definition.specs.Sheet.{Record, Options, optionsOf, recordAt, entryOf, tagRank}
+use Rattle.definition.specs.Sheet.{optionsOf, recordAt, entryOf, tagRank}
 use Rattle.definition.specs.Tests.{Seen, readingTest}
 use Rattle.definition.specs.State.{State}
 use Rattle.definition.specs.Rules.{declareEntry}

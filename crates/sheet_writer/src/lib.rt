@@ -6,8 +6,7 @@ use sheet::holding;
 use writer::Writer;
 ghost use mathlib.Core.Path.{_≡_};
 ghost use mathlib.Core.Bool.{true};
-ghost use mathlib.Core.List.{List};
-ghost use Prim.Native.Nat.{ℕ, _≤_};
+ghost use Prim.Native.Nat.{_≤_};
 ghost use lib.ListN.{length};
 ghost use Rattle.definition.specs.Choice.{unless};
 ghost use Rattle.definition.specs.Bytes.{nameEnd};
@@ -162,7 +161,8 @@ fn record_turn(
 }
 
 // A sheet whole, but for its bound: tests 1 to 3, then its records in their order. Where they stand is left in the four slices of
-// places; `nrecords` and `nbytes` say for how large a sheet the tables and the sections have room.
+// places, the types' hashes behind theirs; `nrecords` and `nbytes` say for how large a sheet the tables and the sections have
+// room.
 pub fn write_sheet(
     tables: &mut [u64],
     sections: &mut [u32],

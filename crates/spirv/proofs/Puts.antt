@@ -1,5 +1,5 @@
 -- Words put into a buffer: word by word at its front, into a part of it that is lent, and one run behind the other.
--- A crate that calls the writers on `&mut buffer[at..]` reads what it then holds by `lent`, `lent-count` and `lent-use`.
+-- A crate that calls the writers on `&mut buffer[at..]` reads what it then holds by `lent` and `lent-count`.
 use Prim.Native.Nat.{ℕ, suc, _+_, _-_, _≤_, _<_}
 use mathlib.Core.Path.{_≡_, refl, sym, ap, _∙_}
 use mathlib.Core.List.{List, [], _∷_, _++_, append-assoc, append-nil}
@@ -92,12 +92,6 @@ module _ (xs : List ℕ) (at : ℕ) where
     -- all of them were put, and they end what is in use
     pub lent-count : m ≡ length ws
     lent-count = all-put ws part z m p in-part
-
-    pub lent-use : take (at + m) (back z) ≡ take at xs ++ ws
-    lent-use =
-        let l : length (take at xs ++ ws) ≡ at + m =
-        simp (length-append, length-take-le at xs (omega arith)) (omega (arith, lent-count)) in
-        ap (take (at + m)) lent ∙ take-at (take at xs ++ ws) (drop (at + length ws) xs) (at + m) l
 
 -- ---- one run behind the other
 

@@ -1,10 +1,10 @@
 -- A name's instruction: its bytes make words, so only the id that it names is taken modulo 2^32.
-use Prim.Native.Nat.{ℕ, zero, suc, _+_, _*_, _-_, _≤_, _<_, _%_}
-use mathlib.Core.Path.{_≡_, refl, sym, ap, _∙_, subst}
-use mathlib.Core.List.{List, [], _∷_, _++_, map}
+use Prim.Native.Nat.{ℕ, suc, _+_, _*_, _≤_, _<_}
+use mathlib.Core.Path.{_≡_, refl, sym, ap, _∙_}
+use mathlib.Core.List.{List, [], _∷_, map}
 use native.Mathlib.Omega.{arith}
 use lib.ListN.{length, getD}
-use Rattle.definition.specs.Instructions.{Instruction, words, name, memberName, packed, littleEndian}
+use Rattle.definition.specs.Instructions.{words, name, memberName, packed, littleEndian}
 use Rattle.spirv.specs.Put.{Put}
 use Rattle.spirv.proofs.Puts as Puts
 use Rattle.writer.specs.declared.Writer.{Writer}

@@ -1,10 +1,10 @@
 -- Searching rows, and that a search of a table's rows is the definition's lookup: one law for any kind of key that is told apart by
 -- two numbers, and then each table as an instance of it.
-use Prim.Native.Nat.{ℕ, zero, suc, _+_, _*_, _-_, _≤_, _<_}
+use Prim.Native.Nat.{ℕ, suc, _+_, _-_, _<_}
 use mathlib.Core.Path.{_≡_, refl, sym, ap, _∙_}
 use mathlib.Core.Bool.{Bool, true, false, _&&_}
-use mathlib.Core.List.{List, [], _∷_, _++_, map}
-use mathlib.Core.Option.{Option, some, none}
+use mathlib.Core.List.{List, [], _∷_, map}
+use mathlib.Core.Option.{some, none}
 use native.Mathlib.Omega.{arith}
 use native.Mathlib.Decide.{ℕ-discrete}
 use lib.Dec.{eqb}
@@ -20,7 +20,7 @@ use Rattle.lookup.specs.Packed.{packed, Small}
 use Rattle.lookup.proofs.Injective.{injective}
 use Rattle.writer.specs.declared.Writer.{Writer}
 use Rattle.writer.specs.declared.Sought.{Sought}
-use Rattle.writer.specs.Rows.{Row, row, rows, seekIn, soughtOf}
+use Rattle.writer.specs.Rows.{row, rows, seekIn, soughtOf}
 use Rattle.writer.specs.Regions.{literalsAt, nullsAt}
 use Rattle.writer.specs.Held.{Tables, All, keyRow, literalRow, nullRow}
 use Rattle.writer.specs.Steps.{FindsType, FindsLiteral, FindsNull}

@@ -1,22 +1,19 @@
 -- Entering a row in a table: the row stands behind those of its table, and every other table and every section is as it was. One
 -- law for all tables of rows; a composite also puts its parts behind those in use.
-use Prim.Native.Nat.{ℕ, zero, suc, _+_, _*_, _-_, _≤_, _<_}
+use Prim.Native.Nat.{ℕ, _+_, _*_, _≤_}
 use mathlib.Core.Path.{_≡_, refl, sym, ap, _∙_}
 use mathlib.Core.List.{List, [], _∷_, _++_, append-assoc, append-nil, map}
 use native.Mathlib.Omega.{arith}
 use lib.ListN.{length, take, drop, length-drop}
 use lib.Seq.{length-take-le, take-add, drop-drop}
-use Rattle.definition.specs.Literals.{Literal}
-use Rattle.definition.specs.Shapes.{Key}
-use Rattle.definition.specs.State.{State, Composite, composite, Valued}
-use Rattle.literals.specs.Forms.{formOf, bitsOf}
-use Rattle.lookup.specs.Packed.{packed, Small}
+use Rattle.definition.specs.State.{Composite, composite, Valued}
+use Rattle.lookup.specs.Packed.{Small}
 use Rattle.spirv.specs.Sections.{splice}
 use Rattle.writer.specs.declared.Writer.{Writer}
 use Rattle.writer.specs.Rows.{Row, row, rows, part}
 use Rattle.writer.specs.Regions.{literalsAt, nullsAt, valuesAt, compositesAt, partsAt}
 use Rattle.writer.specs.Cost.{aType, aLiteral, aNull, aValue, aComposite}
-use Rattle.writer.specs.Held.{Tables, tablesOf, tablesIn, keyRow, literalRow, nullRow, valueRow, compositeRow, keyOfC, partsOfC, allParts, All, AllKinds, SmallKind, Held, RoomIn}
+use Rattle.writer.specs.Held.{Tables, tablesOf, tablesIn, keyRow, literalRow, nullRow, valueRow, compositeRow, keyOfC, partsOfC, allParts, All, AllKinds, SmallKind, RoomIn}
 use Rattle.writer.specs.Steps.{EnteredType, EnteredLiteral, EnteredNull, EnteredComposite, EnteredValue}
 use Rattle.writer.proofs.Regions.{left, right, behind, rows-agree, rows-more, part-right}
 

@@ -1,20 +1,18 @@
 -- Reading a constant of the sheet.
-use Prim.Native.Nat.{ℕ, zero, suc, _+_, _*_, _-_, _≤_, _<_}
-use mathlib.Core.Path.{_≡_, refl, sym, ap, _∙_}
+use Prim.Native.Nat.{ℕ, zero, suc, _+_, _*_, _≤_, _<_}
+use mathlib.Core.Path.{_≡_, refl, ap, _∙_}
 use mathlib.Core.List.{List, [], _∷_, map}
-use mathlib.Core.Option.{none}
 use native.Mathlib.Omega.{arith}
 use native.Mathlib.Nat.{not-suc-le-zero}
-use lib.Dec.{ltb}
-use lib.ListN.{length, getD, drop}
+use lib.ListN.{getD, drop}
 use borrow.Author.Tests.{lt-ltb, le-ltb}
 use Rattle.definition.specs.State.{Valued}
-use Rattle.definition.specs.Rules.{noValue, valueAt}
+use Rattle.definition.specs.Rules.{noValue}
 use Rattle.writer.specs.declared.Writer.{Writer}
 use Rattle.writer.specs.declared.Value.{Value}
 use Rattle.writer.specs.Rows.{Row, row, rows}
 use Rattle.writer.specs.Regions.{valuesAt}
-use Rattle.writer.specs.Held.{Tables, valueRow, kindCode, SmallKind, AllKinds, Held}
+use Rattle.writer.specs.Held.{Tables, valueRow, AllKinds}
 use Rattle.writer.specs.Steps.{IsValue, ValueAt}
 
 no-row : Row

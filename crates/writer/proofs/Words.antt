@@ -1,6 +1,6 @@
 -- Words put behind those of a section, and capabilities listed. One law for every section: the state's words are those it had and
 -- the instruction's behind them, and tables and other sections stay; each kind of instruction is then an instance.
-use Prim.Native.Nat.{ℕ, zero, suc, _+_, _*_, _-_, _≤_, _<_, _%_}
+use Prim.Native.Nat.{ℕ, zero, suc, _+_, _*_, _≤_, _<_}
 use mathlib.Core.Path.{_≡_, refl, sym, ap, _∙_, subst}
 use mathlib.Core.Bool.{Bool, true, false}
 use mathlib.Core.List.{List, [], _∷_, _++_, append-assoc, append-nil, map}
@@ -13,7 +13,7 @@ use borrow.Author.Tests.{eq-eqb, ne-eqb}
 use Rattle.definition.specs.Choice.{pick}
 use Rattle.definition.specs.Instructions.{Instruction, words, allWords, plain, constantComposite}
 use Rattle.spirv.specs.Heads.{compositeHead}
-use Rattle.definition.specs.State.{State, declare, annotate, occurrences, same, listOne, listed}
+use Rattle.definition.specs.State.{State, occurrences, same, listOne, listed}
 use Rattle.spirv.specs.Put.{Put}
 use Rattle.spirv.specs.Sections.{splice}
 use Rattle.spirv.proofs.Puts as Puts

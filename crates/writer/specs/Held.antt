@@ -7,7 +7,7 @@ use lib.ListN.{length}
 use Rattle.definition.specs.Literals.{Literal}
 use Rattle.definition.specs.Instructions.{Instruction, allWords}
 use Rattle.definition.specs.Shapes.{Kind, Key}
-use Rattle.definition.specs.State.{State, Constants, Composite, composite, Valued, Got}
+use Rattle.definition.specs.State.{State, Composite, composite, Valued}
 use Rattle.literals.specs.Forms.{formOf, bitsOf}
 use Rattle.lookup.specs.Packed.{packed, code, Small}
 use Rattle.writer.specs.declared.Writer.{Writer}

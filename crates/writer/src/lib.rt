@@ -12,7 +12,7 @@ ghost use Rattle.definition.specs.Instructions.{words, plain, constantComposite
 ghost use Rattle.spirv.specs.Sections.{splice};
 ghost use Rattle.lookup.specs.Local.{asList};
 ghost use Rattle.writer.specs.Rows.{rows, seekIn, seekParts, soughtOf, part, low, isListed};
-ghost use Rattle.writer.specs.Regions.{partsAt, Section, names, annotations, declarations};
+ghost use Rattle.writer.specs.Regions.{partsAt, names, annotations, declarations};
 ghost use Rattle.writer.specs.Cost.{nothing, aType, aLiteral, aNull, aValue, aComposite, staging, capabilitiesOf, naming, annotating, declaring};
 ghost use Rattle.writer.specs.Held.{Held, RoomIn, RoomFor};
 ghost use Rattle.writer.specs.Steps.{fresh, Took, FindsType, FindsLiteral, FindsNull, FindsComposite, EnteredType, EnteredLiteral, EnteredNull, EnteredComposite, EnteredValue, ValueAt, Adds, Puts, Listed, Pending, Committed};

@@ -9,7 +9,7 @@ use Rattle.definition.specs.Shapes.{Key, scalar, shape}
 use Prim.Native.Nat.{_+_, _*_}
 use mathlib.Core.Path.{sym, ap, _∙_, subst}
 use native.Mathlib.Omega.{arith}
-use Rattle.definition.specs.Shapes.{rank, rankOf, inner, sized}
+use Rattle.definition.specs.Shapes.{rank, rankOf}
 use Rattle.literals.specs.Forms.{literalOf}
 use Rattle.lookup.specs.Local.{shapeOf, keyOf, innerOf, lengthOf}
 use Rattle.finding.specs.Costs.{costOf}

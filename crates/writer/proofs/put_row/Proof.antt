@@ -3,7 +3,7 @@ use Prim.Native.Nat.{ℕ, suc, _+_}
 use native.Mathlib.Numerals.{add-one}
 use mathlib.Core.List.{[], _∷_}
 use mathlib.Core.Path.{_≡_, _∙_, ap}
-use lib.Seq.{sets, sets-eq}
+use lib.Seq.{sets-eq}
 use lib.ListN.{length-set, set}
 use native.Mathlib.Omega.{arith}
 use borrow.Author.Needs.{needs}

@@ -1,9 +1,8 @@
 -- The invariant of the outer loop: what is found among all the rows is what is found among those that are left, whose parts begin
 -- at the running offset. The inner loop: the parts are the same if those that are left are. The counters move before the tests,
 -- so that every `continue` owes the same.
-use lib.ListN.{length, getD, drop}
+use lib.ListN.{getD, drop}
 use native.Mathlib.Omega.{arith}
-use mathlib.Core.List.{List}
 use mathlib.Core.Path.{_≡_, refl, sym, ap, _∙_}
 use Prim.Native.Nat.{ℕ, _+_, _-_, _*_, _≤_}
 use Rattle.writer.specs.Rows.{part, sameList, seekParts}

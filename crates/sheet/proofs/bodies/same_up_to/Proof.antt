@@ -5,7 +5,7 @@ use mathlib.Core.Path.{_≡_, refl, sym, _∙_}
 use native.Mathlib.Omega.{arith}
 use borrow.Author.Needs.{needs}
 use denote.Ref.{now}
-use lib.ListN.{length, take}
+use lib.ListN.{take}
 use Rattle.definition.specs.Tests.{sameBytes}
 use Rattle.sheet.proofs.Comparing.{shorter, bytes-differ, bytes-same, one, four}
 use Rattle.sheet.proofs.bodies.same_up_to.Statement.{statement}
