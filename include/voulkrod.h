@@ -19,6 +19,10 @@
  *
  * The functions have no state: calls may go on in several threads at once, on one sheet
  * too. They always return, and the same arguments give the same answer.
+ *
+ * What is said below of answers and words is proved of the number returned, of every sheet
+ * and every buffer (`CheckExported`, `DeclareExported` and `WrappedExported` in
+ * crates/exports/specs/Numbers.antt), but for the longest module that was seen.
  */
 #ifndef VOULKROD_H
 #define VOULKROD_H

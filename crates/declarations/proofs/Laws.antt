@@ -31,7 +31,7 @@ use Rattle.sheet_writer.specs.declared.Outcome.the-variants.{Refused, Fit}
 use Rattle.sheet_writer.specs.Whole.{beforeBound, Capacity, CameTo}
 use Rattle.module_layout.specs.declared.Answer.{Answer}
 use Rattle.module_layout.specs.declared.Answer.the-variants.{Written as Wrote, Refused as Refuses}
-use Rattle.module_layout.specs.Finished.{answerOf, declaredAs, Worded, Roomy, Finished}
+use Rattle.module_layout.specs.Finished.{answerOf, declaredAs, Worded, Roomy, Counted, Finished}
 use Rattle.declarations.specs.Promise.{DeclarePromise, CheckPromise, WrappedPromise, verdictAs, wrappingAs}
 use Rattle.declarations.specs.Stages.{Lent, Roomed, Ended, Stood, Standing, WrappedAs, verdictFrom}
 use Rattle.declarations.specs.declared.Verdict.the-variants as program
@@ -50,6 +50,10 @@ all-bytes (x ∷ s) f b m = go (List·Memᴰ·cases-cons m) (λ n. all-bytes s (
 
 -- ---- Declare
 
+counted-small : (a : Answer) (m bound : ℕ) → Counted a → answerOf a ≡ Meant.Written m bound → m < 4294967296
+counted-small (Wrote n b) m bound c e = let q : n ≡ m = cc in omega arith
+counted-small (Refuses n) m bound c e = let z : _≡_ {A = ℕ} 0 1 = cc in absurd (omega arith)
+
 module _ (s : List ℕ) where
   is-judged : judged s ≡ boundTest (beforeBound s)
   unfolding judged
@@ -64,16 +68,20 @@ module _ (s : List ℕ) where
     unfolding declare
     as-declared j f e = e ∙ sym (ap (declaredOf b) (is-judged ∙ ap boundTest (sym f)))
 
-    kept : IsBytes s → declaredAs a after ≡ declare s b → DeclarePromise s b a after
-    kept bytes e = record {
+    kept : IsBytes s → ((n bound : ℕ) → answerOf a ≡ Meant.Written n bound → n < 4294967296) → declaredAs a after ≡ declare s b → DeclarePromise s b a after
+    kept bytes small e = record {
       answered = rw e (demand-1 s b);
       same = e;
       accepted = λ n bound w. demand-3-of-declare s b bytes n bound (sym (ap (λ (d : Declared). d .answer) e) ∙ w);
+      counted = small;
     }
 
+    refused-small : (n m bound : ℕ) → answerOf a ≡ Meant.Refused n → answerOf a ≡ Meant.Written m bound → m < 4294967296
+    refused-small n m bound e f = let z : _≡_ {A = ℕ} 0 1 = cc in absurd (omega arith)
+
     pub declared : (bytes : ℕ) (p : Places) (T S : List ℕ) (o : Outcome) → IsBytes s → CameTo s bytes p T S o → Ended S o b a after → DeclarePromise s b a after
-    declared nb p T S (Refused n) bytes c e = kept bytes (as-declared (refused n) c e)
-    declared nb p T S (Fit k w) bytes c e = kept bytes (as-declared (fit (c .progress)) (c .same) (e .says (c .progress) T (c .held) (worded bytes (c .progress) (c .same))))
+    declared nb p T S (Refused n) bytes c e = kept bytes (λ m bound w. refused-small n m bound (ap (λ (d : Declared). d .answer) e) w) (as-declared (refused n) c e)
+    declared nb p T S (Fit k w) bytes c e = kept bytes (λ m bound. counted-small a m bound (e .counted)) (as-declared (fit (c .progress)) (c .same) (e .says (c .progress) T (c .held) (worded bytes (c .progress) (c .same))))
 
 -- ---- the scratch of the operations themselves: zeros, as many as a sheet can fill
 

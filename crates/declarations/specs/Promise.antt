@@ -1,6 +1,6 @@
 -- The promises of the three operations: of each answer and of the buffer which definition they equal, and the mission's demands.
 -- Document 01: "For each operation the promise says of each result which definition it equals, buffer words and refusals counted".
-use Prim.Native.Nat.{ℕ}
+use Prim.Native.Nat.{ℕ, _<_}
 use mathlib.Core.Path.{_≡_}
 use mathlib.Core.Bool.{Bool}
 use mathlib.Core.Logic.{_⊎_}
@@ -25,6 +25,8 @@ pub record DeclarePromise (s before : List ℕ) (r : Answer) (after : List ℕ) 
   pub same : declaredAs r after ≡ declare s before
   -- demand 3, undivided, of the words that stand in the buffer
   pub accepted : (n bound : ℕ) → answerOf r ≡ Written n bound → Accepted s before n bound
+  -- a word count has 32 bits
+  pub counted : (n bound : ℕ) → answerOf r ≡ Written n bound → n < 4294967296
 
 -- ---- Check
 

@@ -1,24 +1,23 @@
--- Facts by cases on a shape: one line for each shape. The last one, `told`, is a left inverse: opcode, operands and the inner
--- type tell the shape, so that no two shapes have to be compared with each other.
-use Prim.Native.Nat.{ℕ, _*_, _<_, _≤_, _/_}
-use mathlib.Core.Path.{_≡_, refl, sym, ap, _∙_}
+-- Facts by cases on a shape: one line for each shape. The last one, `told`, is a left inverse: the reader of types finds the shape in
+-- its instruction, once it finds what that names; so no two shapes have to be compared with each other.
+use Prim.Native.Nat.{ℕ, suc, _*_, _<_, _≤_, _/_, _%_}
+use mathlib.Core.Path.{_≡_, refl, sym, ap, _∙_, subst}
 use mathlib.Core.List.{List, [], _∷_, _++_, append-nil, List·Memᴰ}
 use mathlib.Core.Option.{Option, some, none}
 use mathlib.Core.Bool.{Bool, true, false, _&&_, Bool·beq}
 use native.Mathlib.Omega.{arith}
 use lib.Dec.{eqb, ltb, T, ltb→lt, lit<, lit≤}
-use lib.ListN.{getD}
 use borrow.Author.Tests.{eq-eqb, ne-eqb, eqb-true, eqb-false}
-use Rattle.definition.specs.Choice.{pick}
-use Rattle.definition.specs.Numbers.{OpTypeBool, OpTypeInt, OpTypeFloat, OpTypeVector, OpTypeMatrix, OpTypeImage, OpTypeSampler, OpTypeAccelerationStructureKHR}
-use Rattle.definition.specs.Instructions.{Instruction}
+use Rattle.definition.specs.Instructions.{Instruction, typeOp}
 use Rattle.definition.specs.Reader.{uses, idsAmong, layoutOf, formed}
+use Rattle.definition.specs.ReadTypes.{declarationOf, bytesOf, scalarBy, readScalar, readVector, typeBy}
 use Rattle.definition.specs.Shapes.{Kind, Shape, Key, inner, sized, rank, rankOf, opcodeOf, operandsOf, typeOf}
 use Rattle.definition.specs.Shapes.{sint, uint, float, bool, one, many, scalar, vector, matrix, pointer, valuePointer, image, sampler, accelerationStructure, rayQuery, bindingArray, bindingPointer, entry, shape}
 use Rattle.definition.specs.WellDeclared.{plainType, EqualTypes, declaring, needs, intNeeds}
 use Rattle.definition.specs.Finding.{capabilitiesOf, kindCapabilities}
 use Rattle.definition.proofs.Truth.{both-true, true-is, alike-is}
-use Rattle.definition.proofs.Sizes.{W, Sized, SmallShape, SmallKey, under-more}
+use Rattle.definition.proofs.Images.{images-agree}
+use Rattle.definition.proofs.Sizes.{W, Sized, SmallShape, SmallKey}
 
 -- the ids that a shape's instruction uses
 abbrev pub innerIds : Option Key → ℕ → List ℕ
@@ -68,8 +67,8 @@ scaled w n = go (eqb w n) refl
     go true e = eq-eqb (8 * w) (8 * n) (ap (λ (x : ℕ). 8 * x) (eqb-true w n e))
     go false e = ne-eqb (8 * w) (8 * n) (λ q. eqb-false w n e (omega arith))
 
-integers-agree : (w : ℕ) (xs : List ℕ) → intNeeds (8 * w ∷ xs) ≡ kindCapabilities (sint w)
-integers-agree w xs = rw (scaled w 1, scaled w 2, scaled w 8)
+integers-agree : (w : ℕ) → intNeeds (8 * w) ≡ kindCapabilities (sint w)
+integers-agree w = rw (scaled w 1, scaled w 2, scaled w 8)
 
 -- what a shape names lies less deep
 abbrev pub Deeper : Option Key → ℕ → Type 0
@@ -95,68 +94,51 @@ PlainIn none = Unit
 PlainIn (some (shape l)) = T (plainType (opcodeOf l))
 PlainIn (some (entry h)) = ⊥
 
-plain-scalar : (k : Kind) → T (plainType (opcodeOf (scalar k)))
+pub plain-scalar : (k : Kind) → T (plainType (opcodeOf (scalar k)))
 plain-scalar (sint w) = tt
 plain-scalar (uint w) = tt
 plain-scalar (float w) = tt
 plain-scalar bool = tt
 
--- the kind and the size in an inner type
-abbrev pub kindIn : Option Key → Kind
-kindIn none = bool
-kindIn (some (entry h)) = bool
-kindIn (some (shape (scalar k))) = k
-kindIn (some (shape (vector n k))) = k
-kindIn (some (shape (matrix c r w))) = bool
-kindIn (some (shape (pointer b c))) = bool
-kindIn (some (shape (valuePointer n k c))) = bool
-kindIn (some (shape (image k d p a m s f))) = bool
-kindIn (some (shape sampler)) = bool
-kindIn (some (shape accelerationStructure)) = bool
-kindIn (some (shape rayQuery)) = bool
-kindIn (some (shape (bindingArray b n))) = bool
-kindIn (some (shape (bindingPointer b n s a))) = bool
+-- ---- what the reader finds: a shape's own declaration tells it, once the reader finds what it names
 
-abbrev pub rowsIn : Option Key → ℕ
-rowsIn none = 0
-rowsIn (some (entry h)) = 0
-rowsIn (some (shape (scalar k))) = 0
-rowsIn (some (shape (vector n k))) = n
-rowsIn (some (shape (matrix c r w))) = 0
-rowsIn (some (shape (pointer b c))) = 0
-rowsIn (some (shape (valuePointer n k c))) = 0
-rowsIn (some (shape (image k d p a m s f))) = 0
-rowsIn (some (shape sampler)) = 0
-rowsIn (some (shape accelerationStructure)) = 0
-rowsIn (some (shape rayQuery)) = 0
-rowsIn (some (shape (bindingArray b n))) = 0
-rowsIn (some (shape (bindingPointer b n s a))) = 0
+-- the reader finds a scalar or a vector under an id
+abbrev pub ReadAs : List Instruction → Shape → ℕ → Type 0
+ReadAs is (scalar k) x = readScalar is x ≡ some k
+ReadAs is (vector n k) x = readVector is x ≡ some (record { count = n; kind = k })
+ReadAs is (matrix c r w) x = Unit
+ReadAs is (pointer b c) x = Unit
+ReadAs is (valuePointer n k c) x = Unit
+ReadAs is (image k d p a m s f) x = Unit
+ReadAs is sampler x = Unit
+ReadAs is accelerationStructure x = Unit
+ReadAs is rayQuery x = Unit
+ReadAs is (bindingArray b n) x = Unit
+ReadAs is (bindingPointer b n s a) x = Unit
 
-abbrev pub widthOf : Kind → ℕ
-widthOf (sint w) = w
-widthOf (uint w) = w
-widthOf (float w) = w
-widthOf bool = 0
+abbrev pub ReadIn : List Instruction → Option Key → ℕ → Type 0
+ReadIn is none x = Unit
+ReadIn is (some (entry h)) x = Unit
+ReadIn is (some (shape l)) x = ReadAs is l x
 
--- opcode, operands and inner type tell a plain shape
-abbrev pub shapeFrom : ℕ → List ℕ → Option Key → Shape
-shapeFrom o xs k =
-    pick (eqb o OpTypeBool) (scalar bool)
-    (pick (eqb o OpTypeInt) (pick (eqb (getD xs 1 0) 1) (scalar (sint (getD xs 0 0 / 8))) (scalar (uint (getD xs 0 0 / 8))))
-    (pick (eqb o OpTypeFloat) (scalar (float (getD xs 0 0 / 8)))
-    (pick (eqb o OpTypeVector) (vector (getD xs 1 0) (kindIn k))
-    (pick (eqb o OpTypeMatrix) (matrix (getD xs 1 0) (rowsIn k) (widthOf (kindIn k)))
-    (pick (eqb o OpTypeImage) (image (kindIn k) (getD xs 1 0) (getD xs 2 0) (getD xs 3 0) (getD xs 4 0) (getD xs 5 0) (getD xs 6 0))
-    (pick (eqb o OpTypeSampler) sampler
-    (pick (eqb o OpTypeAccelerationStructureKHR) accelerationStructure
-    rayQuery)))))))
+bytes-of : (w : ℕ) → bytesOf (8 * w) ≡ some w
+bytes-of w =
+    let r : (8 * w) % 8 ≡ 0 = omega arith in
+    let q : (8 * w) / 8 ≡ w = omega arith in
+    rw (r, q) refl
+
+pub scalar-by : (k : Kind) (i x y : ℕ) → scalarBy (typeOf (scalar k) i x y) ≡ some k
+scalar-by (sint w) i x y = rw (bytes-of w) refl
+scalar-by (uint w) i x y = rw (bytes-of w) refl
+scalar-by (float w) i x y = rw (bytes-of w) refl
+scalar-by bool i x y = refl
 
 -- what holds of each shape
 pub record Facts (l : Shape) : Type 0 where
   pub used : (x y : ℕ) → idsAmong (layoutOf (opcodeOf l) .operands) (operandsOf l x y) ≡ innerIds (inner l) x ++ lengthIds (sized l) y
   pub formed : (id x y : ℕ) → Formed (typeOf l id x y)
   pub fits : SmallShape l → (last id x y : ℕ) → id ≤ last → x ≤ last → y ≤ last → Sized last (typeOf l id x y)
-  pub needed : (id x y : ℕ) → needs (typeOf l id x y) ≡ capabilitiesOf l
+  pub needed : SmallShape l → (id x y : ℕ) → needs (typeOf l id x y) ≡ capabilitiesOf l
   pub deeper : Deeper (inner l) (rankOf l)
   pub inside : Inside (sized l) (rankOf l)
   pub small-inner : SmallShape l → SmallIn (inner l)
@@ -164,25 +146,25 @@ pub record Facts (l : Shape) : Type 0 where
   pub shallow : rankOf l ≤ 2
   pub plain-inner : T (plainType (opcodeOf l)) → PlainIn (inner l)
   pub plain-sized : T (plainType (opcodeOf l)) → sized l ≡ none
-  pub told : (x y : ℕ) → T (plainType (opcodeOf l)) → shapeFrom (opcodeOf l) (operandsOf l x y) (inner l) ≡ l
+  pub told : (is : List Instruction) (id x y : ℕ) → T (plainType (opcodeOf l)) → ReadIn is (inner l) x → typeBy is (typeOf l id x y) ≡ some l
 
 pub facts : (l : Shape) → Facts l
 unfolding needs
-facts (scalar (sint w)) = record { used = λ x y. refl; formed = λ id x y. taken tt; fits = λ h last id x y i j k. record { words = λ B p q. (omega arith, (omega arith, (omega arith, tt))); short = lit< tt }; needed = λ id x y. integers-agree w (1 ∷ []); deeper = tt; inside = tt; small-inner = λ h. tt; small-length = λ h. tt; shallow = lit≤ tt; plain-inner = λ t. tt; plain-sized = λ t. refl; told = λ x y t. ap (λ (n : ℕ). scalar (sint n)) (omega arith) }
-facts (scalar (uint w)) = record { used = λ x y. refl; formed = λ id x y. taken tt; fits = λ h last id x y i j k. record { words = λ B p q. (omega arith, (omega arith, (omega arith, tt))); short = lit< tt }; needed = λ id x y. integers-agree w (0 ∷ []); deeper = tt; inside = tt; small-inner = λ h. tt; small-length = λ h. tt; shallow = lit≤ tt; plain-inner = λ t. tt; plain-sized = λ t. refl; told = λ x y t. ap (λ (n : ℕ). scalar (uint n)) (omega arith) }
-facts (scalar (float w)) = record { used = λ x y. refl; formed = λ id x y. taken tt; fits = λ h last id x y i j k. record { words = λ B p q. (omega arith, (omega arith, tt)); short = lit< tt }; needed = λ id x y. rw (scaled w 8); deeper = tt; inside = tt; small-inner = λ h. tt; small-length = λ h. tt; shallow = lit≤ tt; plain-inner = λ t. tt; plain-sized = λ t. refl; told = λ x y t. ap (λ (n : ℕ). scalar (float n)) (omega arith) }
-facts (scalar bool) = record { used = λ x y. refl; formed = λ id x y. taken tt; fits = λ h last id x y i j k. record { words = λ B p q. (omega arith, tt); short = lit< tt }; needed = λ id x y. refl; deeper = tt; inside = tt; small-inner = λ h. tt; small-length = λ h. tt; shallow = lit≤ tt; plain-inner = λ t. tt; plain-sized = λ t. refl; told = λ x y t. refl }
-facts (vector n k) = record { used = λ x y. refl; formed = λ id x y. taken tt; fits = λ h last id x y i j k. record { words = λ B p q. (omega arith, (omega arith, (omega arith, tt))); short = lit< tt }; needed = λ id x y. refl; deeper = lit< tt; inside = tt; small-inner = λ h. h .1; small-length = λ h. tt; shallow = lit≤ tt; plain-inner = λ t. plain-scalar k; plain-sized = λ t. refl; told = λ x y t. refl }
-facts (matrix c r w) = record { used = λ x y. refl; formed = λ id x y. taken tt; fits = λ h last id x y i j k. record { words = λ B p q. (omega arith, (omega arith, (omega arith, tt))); short = lit< tt }; needed = λ id x y. refl; deeper = lit< tt; inside = tt; small-inner = λ h. (h .1, h .2); small-length = λ h. tt; shallow = lit≤ tt; plain-inner = λ t. tt; plain-sized = λ t. refl; told = λ x y t. refl }
-facts (pointer b c) = record { used = λ x y. refl; formed = λ id x y. taken tt; fits = λ h last id x y i j k. record { words = λ B p q. (omega arith, (omega arith, (omega arith, tt))); short = lit< tt }; needed = λ id x y. refl; deeper = lit< tt; inside = tt; small-inner = λ h. tt; small-length = λ h. tt; shallow = lit≤ tt; plain-inner = λ t. absurd t; plain-sized = λ t. refl; told = λ x y t. absurd t }
-facts (valuePointer one k c) = record { used = λ x y. refl; formed = λ id x y. taken tt; fits = λ h last id x y i j k. record { words = λ B p q. (omega arith, (omega arith, (omega arith, tt))); short = lit< tt }; needed = λ id x y. refl; deeper = lit< tt; inside = tt; small-inner = λ h. h .1; small-length = λ h. tt; shallow = lit≤ tt; plain-inner = λ t. absurd t; plain-sized = λ t. refl; told = λ x y t. absurd t }
-facts (valuePointer (many n) k c) = record { used = λ x y. refl; formed = λ id x y. taken tt; fits = λ h last id x y i j k. record { words = λ B p q. (omega arith, (omega arith, (omega arith, tt))); short = lit< tt }; needed = λ id x y. refl; deeper = lit< tt; inside = tt; small-inner = λ h. (h .1, h .2); small-length = λ h. tt; shallow = lit≤ tt; plain-inner = λ t. absurd t; plain-sized = λ t. refl; told = λ x y t. absurd t }
-facts (image k d p a m s f) = record { used = λ x y. refl; formed = λ id x y. taken tt; fits = λ h last id x y i j k. record { words = λ B u q. (omega arith, (omega arith, under-more W B (d ∷ p ∷ a ∷ m ∷ s ∷ f ∷ []) (omega arith) (h .1))); short = lit< tt }; needed = λ id x y. refl; deeper = lit< tt; inside = tt; small-inner = λ h. h .0; small-length = λ h. tt; shallow = lit≤ tt; plain-inner = λ t. plain-scalar k; plain-sized = λ t. refl; told = λ x y t. refl }
-facts sampler = record { used = λ x y. refl; formed = λ id x y. taken tt; fits = λ h last id x y i j k. record { words = λ B p q. (omega arith, tt); short = lit< tt }; needed = λ id x y. refl; deeper = tt; inside = tt; small-inner = λ h. tt; small-length = λ h. tt; shallow = lit≤ tt; plain-inner = λ t. tt; plain-sized = λ t. refl; told = λ x y t. refl }
-facts accelerationStructure = record { used = λ x y. refl; formed = λ id x y. taken tt; fits = λ h last id x y i j k. record { words = λ B p q. (omega arith, tt); short = lit< tt }; needed = λ id x y. refl; deeper = tt; inside = tt; small-inner = λ h. tt; small-length = λ h. tt; shallow = lit≤ tt; plain-inner = λ t. tt; plain-sized = λ t. refl; told = λ x y t. refl }
-facts rayQuery = record { used = λ x y. refl; formed = λ id x y. taken tt; fits = λ h last id x y i j k. record { words = λ B p q. (omega arith, tt); short = lit< tt }; needed = λ id x y. refl; deeper = tt; inside = tt; small-inner = λ h. tt; small-length = λ h. tt; shallow = lit≤ tt; plain-inner = λ t. tt; plain-sized = λ t. refl; told = λ x y t. refl }
-facts (bindingArray b n) = record { used = λ x y. refl; formed = λ id x y. taken tt; fits = λ h last id x y i j k. record { words = λ B p q. (omega arith, (omega arith, (omega arith, tt))); short = lit< tt }; needed = λ id x y. refl; deeper = lit< tt; inside = lit< tt; small-inner = λ h. tt; small-length = λ h. h; shallow = lit≤ tt; plain-inner = λ t. absurd t; plain-sized = λ t. absurd t; told = λ x y t. absurd t }
-facts (bindingPointer b n s a) = record { used = λ x y. refl; formed = λ id x y. taken tt; fits = λ h last id x y i j k. record { words = λ B p q. (omega arith, (omega arith, (omega arith, tt))); short = lit< tt }; needed = λ id x y. refl; deeper = lit< tt; inside = tt; small-inner = λ h. h .0; small-length = λ h. tt; shallow = lit≤ tt; plain-inner = λ t. absurd t; plain-sized = λ t. refl; told = λ x y t. absurd t }
+facts (scalar (sint w)) = record { used = λ x y. refl; formed = λ id x y. taken tt; fits = λ h last id x y i j k. record { words = λ B p q. (omega arith, (omega arith, (omega arith, tt))); short = lit< tt }; needed = λ h id x y. integers-agree w; deeper = tt; inside = tt; small-inner = λ h. tt; small-length = λ h. tt; shallow = lit≤ tt; plain-inner = λ t. tt; plain-sized = λ t. refl; told = λ is id x y t r. rw (bytes-of w) refl }
+facts (scalar (uint w)) = record { used = λ x y. refl; formed = λ id x y. taken tt; fits = λ h last id x y i j k. record { words = λ B p q. (omega arith, (omega arith, (omega arith, tt))); short = lit< tt }; needed = λ h id x y. integers-agree w; deeper = tt; inside = tt; small-inner = λ h. tt; small-length = λ h. tt; shallow = lit≤ tt; plain-inner = λ t. tt; plain-sized = λ t. refl; told = λ is id x y t r. rw (bytes-of w) refl }
+facts (scalar (float w)) = record { used = λ x y. refl; formed = λ id x y. taken tt; fits = λ h last id x y i j k. record { words = λ B p q. (omega arith, (omega arith, tt)); short = lit< tt }; needed = λ h id x y. rw (scaled w 8); deeper = tt; inside = tt; small-inner = λ h. tt; small-length = λ h. tt; shallow = lit≤ tt; plain-inner = λ t. tt; plain-sized = λ t. refl; told = λ is id x y t r. rw (bytes-of w) refl }
+facts (scalar bool) = record { used = λ x y. refl; formed = λ id x y. taken tt; fits = λ h last id x y i j k. record { words = λ B p q. (omega arith, tt); short = lit< tt }; needed = λ h id x y. refl; deeper = tt; inside = tt; small-inner = λ h. tt; small-length = λ h. tt; shallow = lit≤ tt; plain-inner = λ t. tt; plain-sized = λ t. refl; told = λ is id x y t r. refl }
+facts (vector n k) = record { used = λ x y. refl; formed = λ id x y. taken tt; fits = λ h last id x y i j k. record { words = λ B p q. (omega arith, (omega arith, (omega arith, tt))); short = lit< tt }; needed = λ h id x y. refl; deeper = lit< tt; inside = tt; small-inner = λ h. h .1; small-length = λ h. tt; shallow = lit≤ tt; plain-inner = λ t. plain-scalar k; plain-sized = λ t. refl; told = λ is id x y t r. rw r refl }
+facts (matrix c r w) = record { used = λ x y. refl; formed = λ id x y. taken tt; fits = λ h last id x y i j k. record { words = λ B p q. (omega arith, (omega arith, (omega arith, tt))); short = lit< tt }; needed = λ h id x y. refl; deeper = lit< tt; inside = tt; small-inner = λ h. (h .1, h .2); small-length = λ h. tt; shallow = lit≤ tt; plain-inner = λ t. tt; plain-sized = λ t. refl; told = λ is id x y t r. rw r refl }
+facts (pointer b c) = record { used = λ x y. refl; formed = λ id x y. taken tt; fits = λ h last id x y i j k. record { words = λ B p q. (omega arith, (omega arith, (omega arith, tt))); short = lit< tt }; needed = λ h id x y. refl; deeper = lit< tt; inside = tt; small-inner = λ h. tt; small-length = λ h. tt; shallow = lit≤ tt; plain-inner = λ t. absurd t; plain-sized = λ t. refl; told = λ is id x y t r. absurd t }
+facts (valuePointer one k c) = record { used = λ x y. refl; formed = λ id x y. taken tt; fits = λ h last id x y i j k. record { words = λ B p q. (omega arith, (omega arith, (omega arith, tt))); short = lit< tt }; needed = λ h id x y. refl; deeper = lit< tt; inside = tt; small-inner = λ h. h .1; small-length = λ h. tt; shallow = lit≤ tt; plain-inner = λ t. absurd t; plain-sized = λ t. refl; told = λ is id x y t r. absurd t }
+facts (valuePointer (many n) k c) = record { used = λ x y. refl; formed = λ id x y. taken tt; fits = λ h last id x y i j k. record { words = λ B p q. (omega arith, (omega arith, (omega arith, tt))); short = lit< tt }; needed = λ h id x y. refl; deeper = lit< tt; inside = tt; small-inner = λ h. (h .1, h .2); small-length = λ h. tt; shallow = lit≤ tt; plain-inner = λ t. absurd t; plain-sized = λ t. refl; told = λ is id x y t r. absurd t }
+facts (image k d p a m s f) = record { used = λ x y. refl; formed = λ id x y. taken tt; fits = λ h last id x y i j k. record { words = λ B u q. (omega arith, (omega arith, (omega arith, (omega arith, (omega arith, (omega arith, (omega arith, (omega arith, tt)))))))); short = lit< tt }; needed = λ h id x y. images-agree d a s f (h .2); deeper = lit< tt; inside = tt; small-inner = λ h. h .0; small-length = λ h. tt; shallow = lit≤ tt; plain-inner = λ t. plain-scalar k; plain-sized = λ t. refl; told = λ is id x y t r. rw r refl }
+facts sampler = record { used = λ x y. refl; formed = λ id x y. taken tt; fits = λ h last id x y i j k. record { words = λ B p q. (omega arith, tt); short = lit< tt }; needed = λ h id x y. refl; deeper = tt; inside = tt; small-inner = λ h. tt; small-length = λ h. tt; shallow = lit≤ tt; plain-inner = λ t. tt; plain-sized = λ t. refl; told = λ is id x y t r. refl }
+facts accelerationStructure = record { used = λ x y. refl; formed = λ id x y. taken tt; fits = λ h last id x y i j k. record { words = λ B p q. (omega arith, tt); short = lit< tt }; needed = λ h id x y. refl; deeper = tt; inside = tt; small-inner = λ h. tt; small-length = λ h. tt; shallow = lit≤ tt; plain-inner = λ t. tt; plain-sized = λ t. refl; told = λ is id x y t r. refl }
+facts rayQuery = record { used = λ x y. refl; formed = λ id x y. taken tt; fits = λ h last id x y i j k. record { words = λ B p q. (omega arith, tt); short = lit< tt }; needed = λ h id x y. refl; deeper = tt; inside = tt; small-inner = λ h. tt; small-length = λ h. tt; shallow = lit≤ tt; plain-inner = λ t. tt; plain-sized = λ t. refl; told = λ is id x y t r. refl }
+facts (bindingArray b n) = record { used = λ x y. refl; formed = λ id x y. taken tt; fits = λ h last id x y i j k. record { words = λ B p q. (omega arith, (omega arith, (omega arith, tt))); short = lit< tt }; needed = λ h id x y. refl; deeper = lit< tt; inside = lit< tt; small-inner = λ h. tt; small-length = λ h. h; shallow = lit≤ tt; plain-inner = λ t. absurd t; plain-sized = λ t. absurd t; told = λ is id x y t r. absurd t }
+facts (bindingPointer b n s a) = record { used = λ x y. refl; formed = λ id x y. taken tt; fits = λ h last id x y i j k. record { words = λ B p q. (omega arith, (omega arith, (omega arith, tt))); short = lit< tt }; needed = λ h id x y. refl; deeper = lit< tt; inside = tt; small-inner = λ h. h .0; small-length = λ h. tt; shallow = lit≤ tt; plain-inner = λ t. absurd t; plain-sized = λ t. refl; told = λ is id x y t r. absurd t }
 
 pub uses-type : (l : Shape) (id x y : ℕ) → uses (typeOf l id x y) ≡ innerIds (inner l) x ++ lengthIds (sized l) y
 unfolding uses
@@ -200,6 +182,51 @@ abbrev pub FitsIn : List (Key × ℕ) → Option Key → ℕ → Type 0
 FitsIn types none x = x ≡ 0
 FitsIn types (some k) x = List·Memᴰ (k, x) types
 
+-- declarations in which the reader finds a scalar or a vector under an id
+abbrev spelled : Shape → ℕ → List Instruction
+spelled (scalar k) x = typeOf (scalar k) x 0 0 ∷ []
+spelled (vector n k) x = typeOf (vector n k) x (suc x) 0 ∷ typeOf (scalar k) (suc x) 0 0 ∷ []
+spelled (matrix c r w) x = []
+spelled (pointer b c) x = []
+spelled (valuePointer n k c) x = []
+spelled (image k d p a m s f) x = []
+spelled sampler x = []
+spelled accelerationStructure x = []
+spelled rayQuery x = []
+spelled (bindingArray b n) x = []
+spelled (bindingPointer b n s a) x = []
+
+abbrev spelling : Option Key → ℕ → List Instruction
+spelling none x = []
+spelling (some (entry h)) x = []
+spelling (some (shape l)) x = spelled l x
+
+spelled-out : (l : Shape) (x : ℕ) → ReadAs (spelled l x) l x
+unfolding readScalar readVector declarationOf
+spelled-out (scalar k) x = rw (eq-eqb x x refl) (scalar-by k x 0 0)
+spelled-out (vector n k) x = rw (eq-eqb x x refl, ne-eqb (suc x) x (λ e. omega arith), eq-eqb (suc x) (suc x) refl, scalar-by k (suc x) 0 0) refl
+spelled-out (matrix c r w) x = tt
+spelled-out (pointer b c) x = tt
+spelled-out (valuePointer n k c) x = tt
+spelled-out (image k d p a m s f) x = tt
+spelled-out sampler x = tt
+spelled-out accelerationStructure x = tt
+spelled-out rayQuery x = tt
+spelled-out (bindingArray b n) x = tt
+spelled-out (bindingPointer b n s a) x = tt
+
+spelt : (o : Option Key) (x : ℕ) → ReadIn (spelling o x) o x
+spelt none x = tt
+spelt (some (entry h)) x = tt
+spelt (some (shape l)) x = spelled-out l x
+
+one-spelling : (o p : Option Key) (x y : ℕ) → o ≡ p → innerIds o x ≡ innerIds p y → spelling o x ≡ spelling p y
+one-spelling o p x y e = subst (λ (q : Option Key). innerIds o x ≡ innerIds q y → spelling o x ≡ spelling q y) e (go o)
+  where
+    go : (o : Option Key) → innerIds o x ≡ innerIds o y → spelling o x ≡ spelling o y
+    go none f = refl
+    go (some k) f = let q : x ≡ y = cc in ap (spelling (some k)) q
+
 module _ (types : List (Key × ℕ)) (injective : (l m : Shape) (i : ℕ) → List·Memᴰ (shape l, i) types → List·Memᴰ (shape m, i) types → l ≡ m) where
   same-inner : (o p : Option Key) (x y : ℕ) → innerIds o x ≡ innerIds p y → FitsIn types o x → FitsIn types p y → PlainIn o → PlainIn p → o ≡ p
   same-inner none none x y e f g a b = refl
@@ -213,10 +240,15 @@ module _ (types : List (Key × ℕ)) (injective : (l m : Shape) (i : ℕ) → Li
       let q : x ≡ y = cc in
       ap (λ (n : Shape). some (shape n)) (injective l m y (rw q at f) g)
 
-  -- shapes whose type declarations are equal are one
+  -- shapes whose type declarations are equal are one: a reader who finds what both name finds one shape
   pub equal-types-same : (l m : Shape) (i j x y x′ y′ : ℕ) → FitsIn types (inner l) x → FitsIn types (inner m) x′ → EqualTypes (typeOf l i x y) (typeOf m j x′ y′) → l ≡ m
   equal-types-same l m i j x y x′ y′ f g t =
       let tm : T (plainType (opcodeOf m)) = rw (← t .opcode) (t .plain) in
       let ids : innerIds (inner l) x ≡ innerIds (inner m) x′ = sym (plain-used l x y (t .plain)) ∙ (ap (λ (o : ℕ). idsAmong (layoutOf o .operands) (operandsOf l x y)) (t .opcode) ∙ (ap (λ (xs : List ℕ). idsAmong (layoutOf (opcodeOf m) .operands) xs) (t .operands) ∙ plain-used m x′ y′ tm)) in
       let same : inner l ≡ inner m = same-inner (inner l) (inner m) x x′ ids f g (facts l .plain-inner (t .plain)) (facts m .plain-inner tm) in
-      sym (facts l .told x y (t .plain)) ∙ (ap (λ (o : ℕ). shapeFrom o (operandsOf l x y) (inner l)) (t .opcode) ∙ (ap (λ (xs : List ℕ). shapeFrom (opcodeOf m) xs (inner l)) (t .operands) ∙ (ap (λ (k : Option Key). shapeFrom (opcodeOf m) (operandsOf m x′ y′) k) same ∙ facts m .told x′ y′ tm)))
+      let is = spelling (inner l) x in
+      let a : typeBy is (typeOf l i x y) ≡ some l = facts l .told is i x y (t .plain) (spelt (inner l) x) in
+      let b : typeBy is (typeOf m j x′ y′) ≡ some m = facts m .told is j x′ y′ tm (subst (λ (ks : List Instruction). ReadIn ks (inner m) x′) (one-spelling (inner m) (inner l) x′ x (sym same) (sym ids)) (spelt (inner m) x′)) in
+      let c : typeBy is (typeOf l i x y) ≡ typeBy is (typeOf m j x′ y′) = ap (λ (o : ℕ). typeBy is (typeOp o i (operandsOf l x y))) (t .opcode) ∙ ap (λ (xs : List ℕ). typeBy is (typeOp (opcodeOf m) i xs)) (t .operands) in
+      let d : some l ≡ some m = sym a ∙ (c ∙ b) in
+      cc

@@ -11,8 +11,8 @@ use Rattle.definition.specs.Choice.{among}
 use Rattle.definition.specs.Numbers.{OpTypeInt, OpTypeFloat, OpTypeImage, OpTypeAccelerationStructureKHR, OpTypeRayQueryKHR, Dim1D, DimCube}
 use Rattle.definition.specs.Instructions.{Instruction}
 use Rattle.definition.specs.State.{same, occurrences}
-use Rattle.definition.specs.Finding.{extendedFormats, formatCapabilities, dimCapabilities}
-use Rattle.definition.specs.WellDeclared.{intNeeds, floatNeeds, imageNeeds, needs, needed}
+use Rattle.definition.specs.ReadTypes.{operand}
+use Rattle.definition.specs.WellDeclared.{intNeeds, floatNeeds, extendedFormat, formatNeeds, dimNeeds, imageNeeds, needs, needed}
 use Rattle.definition.proofs.Lists.{same-itself, same-cases}
 use Rattle.definition.proofs.Sizes.{W, Under, under-append}
 use Rattle.definition.proofs.Truth.{pick-for}
@@ -32,40 +32,30 @@ small-counted B c (x ∷ xs) u h = go (same-cases c x) (small-counted B c xs (u 
     go (inl e) f = f (omega arith)
     go (inr e) f = omega (arith, u .0, e .0)
 
-int-under : (xs : List ℕ) → Under W (intNeeds xs)
-int-under [] = tt
-int-under (b ∷ xs) = pick-for (Under W) (eqb b 8) _ _ (lit≤ tt, tt) (pick-for (Under W) (eqb b 16) _ _ (lit≤ tt, tt) (pick-for (Under W) (eqb b 64) _ [] (lit≤ tt, tt) tt))
+int-under : (b : ℕ) → Under W (intNeeds b)
+int-under b = pick-for (Under W) (eqb b 8) _ _ (lit≤ tt, tt) (pick-for (Under W) (eqb b 16) _ _ (lit≤ tt, tt) (pick-for (Under W) (eqb b 64) _ [] (lit≤ tt, tt) tt))
 
-float-under : (xs : List ℕ) → Under W (floatNeeds xs)
-float-under [] = tt
-float-under (b ∷ xs) = pick-for (Under W) (eqb b 64) _ [] (lit≤ tt, tt) tt
+float-under : (b : ℕ) → Under W (floatNeeds b)
+float-under b = pick-for (Under W) (eqb b 64) _ [] (lit≤ tt, tt) tt
 
-format-under : (f : ℕ) → Under W (formatCapabilities f)
-unfolding formatCapabilities
-format-under f = pick-for (Under W) (among f extendedFormats) _ [] (lit≤ tt, tt) tt
+format-under : (f : ℕ) → Under W (formatNeeds f)
+format-under f = pick-for (Under W) (extendedFormat f) _ [] (lit≤ tt, tt) tt
 
-dim-under : (d a s : ℕ) → Under W (dimCapabilities d a s)
-unfolding dimCapabilities
+dim-under : (d a s : ℕ) → Under W (dimNeeds d a s)
 dim-under d a s =
-    pick-for (Under W) (eqb d Dim1D) _ _ (pick-for (Under W) (eqb s 1) _ _ (lit≤ tt, tt) (lit≤ tt, tt))
-    (pick-for (Under W) (eqb d DimCube && eqb a 1) _ [] (pick-for (Under W) (eqb s 1) _ _ (lit≤ tt, tt) (lit≤ tt, tt)) tt)
+    pick-for (Under W) (eqb s 2) _ _
+    (pick-for (Under W) (eqb d Dim1D) _ _ (lit≤ tt, tt) (pick-for (Under W) (eqb d DimCube && eqb a 1) _ [] (lit≤ tt, tt) tt))
+    (pick-for (Under W) (eqb d Dim1D) _ _ (lit≤ tt, tt) (pick-for (Under W) (eqb d DimCube && eqb a 1) _ [] (lit≤ tt, tt) tt))
 
-image-under : (xs : List ℕ) → Under W (imageNeeds xs)
-image-under (t ∷ (d ∷ (p ∷ (a ∷ (m ∷ (s ∷ (f ∷ xs))))))) = under-append W (formatCapabilities f) (dimCapabilities d a s) (format-under f) (dim-under d a s)
-image-under (t ∷ (d ∷ (p ∷ (a ∷ (m ∷ (s ∷ [])))))) = tt
-image-under (t ∷ (d ∷ (p ∷ (a ∷ (m ∷ []))))) = tt
-image-under (t ∷ (d ∷ (p ∷ (a ∷ [])))) = tt
-image-under (t ∷ (d ∷ (p ∷ []))) = tt
-image-under (t ∷ (d ∷ [])) = tt
-image-under (t ∷ []) = tt
-image-under [] = tt
+image-under : (i : Instruction) → Under W (imageNeeds i)
+image-under i = under-append W (formatNeeds (operand i 6)) (dimNeeds (operand i 1) (operand i 3) (operand i 5)) (format-under (operand i 6)) (dim-under (operand i 1) (operand i 3) (operand i 5))
 
 needs-under : (d : Instruction) → Under W (needs d)
 unfolding needs
 needs-under d =
-    pick-for (Under W) (eqb (d .opcode) OpTypeInt) _ _ (int-under (d .operands))
-    (pick-for (Under W) (eqb (d .opcode) OpTypeFloat) _ _ (float-under (d .operands))
-    (pick-for (Under W) (eqb (d .opcode) OpTypeImage) _ _ (image-under (d .operands))
+    pick-for (Under W) (eqb (d .opcode) OpTypeInt) _ _ (int-under (operand d 0))
+    (pick-for (Under W) (eqb (d .opcode) OpTypeFloat) _ _ (float-under (operand d 0))
+    (pick-for (Under W) (eqb (d .opcode) OpTypeImage) _ _ (image-under d)
     (pick-for (Under W) (among (d .opcode) (OpTypeAccelerationStructureKHR ∷ OpTypeRayQueryKHR ∷ [])) _ [] (lit≤ tt, tt) tt)))
 
 small-needed : (c : ℕ) (ds : List Instruction) → 1 ≤ needed c ds → c ≤ W

@@ -1,6 +1,6 @@
 -- Demand 3: the instructions of a sound state, with nothing pending, are what the record asks; the reader finds them in the words;
 -- and a sheet that is fit comes to such a state.
-use Prim.Native.Nat.{ℕ, suc, zero, _<_, _≤_}
+use Prim.Native.Nat.{ℕ, suc, _<_, _≤_}
 use mathlib.Core.Path.{_≡_, refl, sym, ap, _∙_, subst}
 use mathlib.Core.Logic.{_⊎_, inl, inr, _↔_}
 use mathlib.Core.List.{List, [], _∷_, _++_, append-nil, append-assoc, List·Memᴰ, List·Memᴰ·head, List·Memᴰ·tail, List·Memᴰ·not-nil, List·Memᴰ·cases-cons, List·Memᴰ·append-cases, Memᴰ·append-right}
@@ -11,20 +11,23 @@ use lib.Dec.{T, lit<, leb}
 use lib.ListN.{length, getElem?, take, drop}
 use lib.Seq.{take-at, drop-at}
 use Rattle.definition.specs.Choice.{pick}
-use borrow.Author.Tests.{ne-eqb}
+use borrow.Author.Tests.{eq-eqb, ne-eqb}
 use Rattle.definition.specs.Numbers.{OpCapability, OpName, OpMemberName, OpDecorate, OpMemberDecorate, OpTypeBool, OpTypeInt, OpTypeFloat, OpTypeVector, OpTypeMatrix, OpTypeImage, OpTypeSampler, OpTypeAccelerationStructureKHR, OpTypeRayQueryKHR}
 use Rattle.definition.specs.Instructions.{Instruction, capability, put}
 use Rattle.definition.specs.Reader.{layoutOf, Module}
+use Rattle.definition.specs.ReadTypes.{resultIs, declarationOf, readScalar, readVector, readType}
 use Rattle.definition.specs.Sheet.{TypeEntry, startOf}
 use Rattle.definition.specs.Tests.{Judged, refused, fit}
-use Rattle.definition.specs.Shapes.{Shape, Key, sameKey, shapeOf, inner, rankOf, opcodeOf, typeOf, entry, shape}
+use Rattle.definition.specs.Shapes.{Kind, Shape, Key, sameKey, shapeOf, inner, rankOf, opcodeOf, typeOf, entry, shape}
+use Rattle.definition.specs.Shapes.{scalar, vector, matrix, pointer, valuePointer, image, sampler, accelerationStructure, rayQuery, bindingArray, bindingPointer}
 use Rattle.definition.specs.State.{State, occurrences, lookup, idOf, boundOf, capabilityInstructions, instructions, moduleWords}
 use Rattle.definition.specs.Operations.{Progress, judged, Written, unchanged, declaredOf, declare}
-use Rattle.definition.specs.WellDeclared.{times, once, declaring, Above, NoEqualTypes, plainType, targets, targetOf, marks, needs, listedIn, listedBy, needed, WellDeclared, Declares, alone, over, HasShape, EntriesDeclared, Demand3, writtenOf, Accepted, Demand3OfDeclare}
-use Rattle.definition.proofs.Lists.{times-append, targets-append, upTo-in, upTo-out, lookup-in, lookup-out}
+use Rattle.definition.specs.WellDeclared.{times, once, declaring, Above, NoEqualTypes, plainType, targets, targetOf, marks, needs, listedIn, listedBy, needed, WellDeclared, HasShape, EntriesDeclared, Demand3, writtenOf, Accepted, Demand3OfDeclare}
+use Rattle.definition.proofs.Lists.{same-itself, times-append, times-in, targets-append, upTo-in, upTo-out, lookup-in, lookup-out}
 use Rattle.definition.proofs.Sizes.{W}
-use Rattle.definition.proofs.ByShape.{taken, FitsIn, FitsLength, PlainIn, Deeper, facts}
-use Rattle.definition.proofs.Sound.{taken-range, Sound, Settled, Note, Declaration}
+use Rattle.definition.proofs.ByShape.{taken, FitsIn, ReadAs, ReadIn, scalar-by, facts}
+use Rattle.definition.proofs.Inners.{plain-shape}
+use Rattle.definition.proofs.Sound.{taken-range, Sound, Settled, settled-declared, Note, Declaration}
 use Rattle.definition.proofs.Types.{HasShapeId, Told}
 use Rattle.definition.proofs.Records.{fit-sheet}
 use Rattle.definition.proofs.Reading.{Readable, module-read}
@@ -162,6 +165,23 @@ module _ (last : ℕ) (d : Instruction) (h : Declaration last d) where
   unfolding targetOf
   declaration-marks = rw (ne-eqb (d .opcode) OpName (not-opcode OpName refl), ne-eqb (d .opcode) OpMemberName (not-opcode OpMemberName refl), ne-eqb (d .opcode) OpDecorate (not-opcode OpDecorate refl), ne-eqb (d .opcode) OpMemberDecorate (not-opcode OpMemberDecorate refl)) refl
 
+-- ---- the reader of types: an id that is declared once is found
+
+once-is : (i : ℕ) (o : Option ℕ) (b : Bool) → resultIs i o ≡ b → once o i ≡ pick b 1 0
+once-is i none b e = ap {B = ℕ} (λ (c : Bool). pick c 1 0) e
+once-is i (some r) b e = ap {B = ℕ} (λ (c : Bool). pick c 1 0) e
+
+declaration-found : (i : ℕ) {d : Instruction} {xs : List Instruction} → d .result ≡ some i → List·Memᴰ d xs → times i xs ≡ 1 → declarationOf xs i ≡ some d
+unfolding declarationOf times
+declaration-found i {d} r (List·Memᴰ·head {x = y} {xs = ys} e) t =
+    let f : resultIs i (y .result) ≡ true = ap (λ (z : Instruction). resultIs i (z .result)) (sym e) ∙ (ap (resultIs i) r ∙ eq-eqb i i refl) in
+    ap (λ (b : Bool). pick b (some y) (declarationOf ys i)) f ∙ ap some (sym e)
+declaration-found i {d} r (List·Memᴰ·tail {x = y} {xs = ys} m) t = go (resultIs i (y .result)) refl (declaration-found i r m)
+  where
+    go : (b : Bool) → resultIs i (y .result) ≡ b → (times i ys ≡ 1 → declarationOf ys i ≡ some d) → pick b (some y) (declarationOf ys i) ≡ some d
+    go true e f = absurd (omega (arith, t, once-is i (y .result) true e, times-in i m, ap (λ (o : Option ℕ). once o i) r, same-itself i))
+    go false e f = f (omega (arith, t, once-is i (y .result) false e))
+
 module _ (start : ℕ) (s : State) (h : Sound start [] s) where
   -- everything but the declarations
   front : List Instruction
@@ -257,24 +277,48 @@ module _ (start : ℕ) (s : State) (h : Sound start [] s) where
   all-declarations : {d : Instruction} → List·Memᴰ d (s .declarations) → List·Memᴰ d (instructions s)
   all-declarations m = rw as-front (Memᴰ·append-right front m)
 
-  -- an entered shape is declared, and so is what it names
-  declares : (n : ℕ) (l : Shape) (i : ℕ) → rankOf l < n → T (plainType (opcodeOf l)) → List·Memᴰ (shape l, i) (s .types) → Declares (instructions s) l i
-  declares zero l i r p m = absurd (omega arith)
-  declares (suc n) l i r p m = go (λ a j q t e. declares n a j q t e) (h .settled l i m)
+  -- an entered shape is what the reader finds under its id
+  shape-declared : (l : Shape) (i : ℕ) → List·Memᴰ (shape l, i) (s .types) → Settled (s .types) (s .declarations) l i
+  shape-declared l i m = go (h .settled l i m)
     where
-      later : {d : Instruction} → List·Memᴰ d (s .declarations) → List·Memᴰ d (instructions s)
-      later e = all-declarations e
+      go : List·Memᴰ {A = ℕ × ℕ} (rankOf l, i) [] ⊎ Settled (s .types) (s .declarations) l i → Settled (s .types) (s .declarations) l i
+      go (inl q) = absurd (List·Memᴰ·not-nil q)
+      go (inr q) = q
 
-      by : ((a : Shape) (j : ℕ) → rankOf a < n → T (plainType (opcodeOf a)) → List·Memᴰ (shape a, j) (s .types) → Declares (instructions s) a j)
-          → (o : Option Key) (x y : ℕ) → inner l ≡ o → PlainIn o → Deeper o (rankOf l) → FitsIn (s .types) o x → y ≡ 0 → List·Memᴰ (typeOf l i x y) (s .declarations) → Declares (instructions s) l i
-      by f none x y e t d fits z on = alone e (later (rw (fits, z) at on))
-      by f (some (entry k)) x y e t d fits z on = absurd t
-      by f (some (shape a)) x y e t d fits z on = over e (later (rw z at on)) (f a x (omega arith) t fits)
+  found-type : (l : Shape) (i : ℕ) (q : Settled (s .types) (s .declarations) l i) → declarationOf (instructions s) i ≡ some (typeOf l i (q .x) (q .y))
+  found-type l i q =
+      let r = no-other i (settled-declared q) in
+      declaration-found i refl (all-declarations (q .declared)) (all-times i ∙ each-once i (r .0) (r .1))
 
-      go : ((a : Shape) (j : ℕ) → rankOf a < n → T (plainType (opcodeOf a)) → List·Memᴰ (shape a, j) (s .types) → Declares (instructions s) a j)
-          → List·Memᴰ {A = ℕ × ℕ} (rankOf l, i) [] ⊎ Settled (s .types) (s .declarations) l i → Declares (instructions s) l i
-      go f (inl q) = absurd (List·Memᴰ·not-nil q)
-      go f (inr q) = by f (inner l) (q .x) (q .y) refl (facts l .plain-inner p) (facts l .deeper) (q .fits) (subst (λ (o : Option ℕ). FitsLength o (q .y)) (facts l .plain-sized p) (q .length)) (q .declared)
+  scalar-read : (k : Kind) (i : ℕ) → List·Memᴰ (shape (scalar k), i) (s .types) → readScalar (instructions s) i ≡ some k
+  unfolding readScalar
+  scalar-read k i m = let q = shape-declared (scalar k) i m in rw (found-type (scalar k) i q) (scalar-by k i (q .x) (q .y))
+
+  vector-read : (n : ℕ) (k : Kind) (i : ℕ) → List·Memᴰ (shape (vector n k), i) (s .types) → readVector (instructions s) i ≡ some (record { count = n; kind = k })
+  unfolding readVector
+  vector-read n k i m = let q = shape-declared (vector n k) i m in rw (found-type (vector n k) i q, scalar-read k (q .x) (q .fits)) refl
+
+  shape-read : (l : Shape) (x : ℕ) → List·Memᴰ (shape l, x) (s .types) → ReadAs (instructions s) l x
+  shape-read (scalar k) x m = scalar-read k x m
+  shape-read (vector n k) x m = vector-read n k x m
+  shape-read (matrix c r w) x m = tt
+  shape-read (pointer b c) x m = tt
+  shape-read (valuePointer n k c) x m = tt
+  shape-read (image k d p a n t f) x m = tt
+  shape-read sampler x m = tt
+  shape-read accelerationStructure x m = tt
+  shape-read rayQuery x m = tt
+  shape-read (bindingArray b n) x m = tt
+  shape-read (bindingPointer b n t a) x m = tt
+
+  inner-read : (o : Option Key) (x : ℕ) → FitsIn (s .types) o x → ReadIn (instructions s) o x
+  inner-read none x f = tt
+  inner-read (some (entry k)) x f = tt
+  inner-read (some (shape l)) x f = shape-read l x f
+
+  type-read : (l : Shape) (i : ℕ) → T (plainType (opcodeOf l)) → List·Memᴰ (shape l, i) (s .types) → readType (instructions s) i ≡ some l
+  unfolding readType
+  type-read l i p m = let q = shape-declared l i m in rw (found-type l i q) (facts l .told (instructions s) i (q .x) (q .y) p (inner-read (inner l) (q .x) (q .fits)))
 
   found-id : (k i : ℕ) → List·Memᴰ (entry k, i) (s .types) → idOf s (entry k) ≡ some i
   found-id k i m = go (lookup sameKey (entry k) (s .types)) refl
@@ -290,11 +334,11 @@ module _ (start : ℕ) (s : State) (h : Sound start [] s) where
   pub entries-declared : (ts : List TypeEntry) → ((k : ℕ) (t : TypeEntry) → getElem? ts k ≡ some t → Told k (shapeOf (t .inner)) (s .types)) → EntriesDeclared ts s (instructions s)
   entries-declared ts told = record {
     shared = shared;
-    declared = λ k l a. let q = has k l a in (q .0, found-id k (q .0) (q .1), declares (suc (rankOf l)) l (q .0) (omega arith) (a .3) (q .2));
+    declared = λ k l a. let q = has k l a in (q .0, found-id k (q .0) (q .1), type-read l (q .0) (plain-shape (a .0 .inner) l (a .2) (a .3)) (q .2));
   }
     where
       has : (k : ℕ) (l : Shape) → HasShape ts k l → HasShapeId k l (s .types)
-      has k l a = subst (λ (o : Option Shape). Told k o (s .types)) (a .2) (told k (a .0) (a .1))
+      has k l a = subst (λ (o : Option Shape). Told k o (s .types)) (a .3) (told k (a .0) (a .1))
 
       shared : (k g : ℕ) (l m : Shape) (i j : ℕ) → HasShape ts k l → HasShape ts g m → idOf s (entry k) ≡ some i → idOf s (entry g) ≡ some j → (i ≡ j) ↔ (l ≡ m)
       shared k g l m i j a b e f =

@@ -264,7 +264,7 @@ module _ (start : ℕ) where
       → AllDeclared (innerIds (inner l) x ++ lengthIds (sized l) y) s
       → Sound start ((rankOf l, id) ∷ P) s → Sound start P (declareWith (capabilitiesOf l) (typeOf l id x y) s)
   shape-sound l id x y P s sm lx ly m f g used h =
-      declare-sound start (rankOf l) id P s (capabilitiesOf l) (typeOf l id x y) refl (facts l .formed id x y) (facts l .fits sm (s .last) id x y (h .bounded (shape l) id m) lx ly) (facts l .needed id x y)
+      declare-sound start (rankOf l) id P s (capabilitiesOf l) (typeOf l id x y) refl (facts l .formed id x y) (facts l .fits sm (s .last) id x y (h .bounded (shape l) id m) lx ly) (facts l .needed sm id x y)
       (λ u n. used u (rw (uses-type l id x y) at n)) alone
       (λ t. record { l = l; id = id; x = x; y = y; spells = refl; entered = m; fits = f })
       settles h

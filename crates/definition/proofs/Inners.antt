@@ -3,6 +3,7 @@
 use Prim.Native.Nat.{ℕ, _*_, _≤_}
 use mathlib.Core.Path.{_≡_, subst, refl}
 use mathlib.Core.List.{List, [], _∷_, List·Memᴰ}
+use mathlib.Core.Logic.{inl, inr}
 use mathlib.Core.Option.{Option, some, none}
 use mathlib.Core.Bool.{Bool, true, false, _&&_}
 use native.Mathlib.Omega.{arith}
@@ -13,9 +14,11 @@ use Rattle.definition.specs.Numbers.{ImageFormatUnknown}
 use Rattle.definition.specs.Sheet.{Member, TypeInner, TypeEntry}
 use Rattle.definition.specs.Sheet.{Scalar, Vector, Matrix, Atomic, Pointer, ValuePointer, Array, Struct, Image, Sampler, AccelerationStructure, RayQuery, BindingArray}
 use Rattle.definition.specs.Tests.{innerTypes}
-use Rattle.definition.specs.Shapes.{Kind, Count, Shape, Format, storageClass, kindOf, formats, formatAt, floating, dimOf, imageOf, countOf, shapeOf}
+use Rattle.definition.specs.Shapes.{Kind, Count, Shape, Format, storageClass, kindOf, formats, formatAt, floating, dimOf, imageOf, countOf, shapeOf, opcodeOf}
 use Rattle.definition.specs.Shapes.{sint, uint, float, bool, one, many, valuePointer}
 use Rattle.definition.specs.Rules.{innerAt, columnStride, matrixStride, elementOf}
+use Rattle.definition.specs.WellDeclared.{plainType, plainEntry}
+use Rattle.definition.proofs.ByShape.{plain-scalar}
 use Rattle.definition.proofs.Truth.{both-true, every-getD, pick-le, pick-for}
 use Rattle.definition.proofs.Sizes.{W, SmallKind, SmallShape}
 use Rattle.definition.proofs.Finding.{named}
@@ -99,10 +102,10 @@ unfolding imageOf
 image-facts d a c x y ha hy =
     let f = format-small x in
     pick-for (ShapeFacts (Image d a c x y)) (eqb c 0) _ _
-    (record { small = (kind-small x 4 (lit≤ tt), (dim-small d, (lit≤ tt, (omega arith, (omega arith, (lit≤ tt, (lit≤ tt, tt))))))); references = λ b m. m })
+    (record { small = (kind-small x 4 (lit≤ tt), (dim-small d, (lit≤ tt, (omega arith, (omega arith, (lit≤ tt, (lit≤ tt, tt)))))), inl refl); references = λ b m. m })
     (pick-for (ShapeFacts (Image d a c x y)) (eqb c 1) _ _
-    (record { small = (lit≤ tt, (dim-small d, (lit≤ tt, (omega arith, (omega arith, (lit≤ tt, (lit≤ tt, tt))))))); references = λ b m. m })
-    (record { small = (f .1, (dim-small d, (lit≤ tt, (omega arith, (lit≤ tt, (lit≤ tt, (omega (arith, f .0), tt))))))); references = λ b m. m }))
+    (record { small = (lit≤ tt, (dim-small d, (lit≤ tt, (omega arith, (omega arith, (lit≤ tt, (lit≤ tt, tt)))))), inl refl); references = λ b m. m })
+    (record { small = (f .1, (dim-small d, (lit≤ tt, (omega arith, (lit≤ tt, (lit≤ tt, (omega (arith, f .0), tt)))))), inr refl); references = λ b m. m }))
 
 value-facts : (n k w s a : ℕ) → n ≤ 255 → w ≤ 255 → ShapeFacts (ValuePointer n k w s a) (valuePointer (countOf n) (kindOf k w) (storageClass s))
 value-facts n k w s a hn hw =
@@ -132,6 +135,30 @@ shaped-facts (BindingArray b n) g = tt
 
 pub shape-facts : (i : TypeInner) (l : Shape) → GoodInner i → shapeOf i ≡ some l → ShapeFacts i l
 shape-facts i l g e = subst (ShapedFacts i) e (shaped-facts i g)
+
+-- a type that is no aggregate and no pointer has such a shape
+abbrev PlainShaped : Option Shape → Type 0
+PlainShaped none = Unit
+PlainShaped (some l) = T (plainType (opcodeOf l))
+
+plain-shaped : (i : TypeInner) → T (plainEntry i) → PlainShaped (shapeOf i)
+unfolding imageOf
+plain-shaped (Scalar k w) t = plain-scalar (kindOf k w)
+plain-shaped (Vector n k w) t = tt
+plain-shaped (Matrix c r w) t = tt
+plain-shaped (Atomic k w) t = plain-scalar (kindOf k w)
+plain-shaped (Pointer b s a) t = absurd t
+plain-shaped (ValuePointer n k w s a) t = absurd t
+plain-shaped (Array b n d) t = tt
+plain-shaped (Struct n ms) t = tt
+plain-shaped (Image d a c x y) t = pick-for (λ (l : Shape). T (plainType (opcodeOf l))) (eqb c 0) _ _ tt (pick-for (λ (l : Shape). T (plainType (opcodeOf l))) (eqb c 1) _ _ tt tt)
+plain-shaped (Sampler c) t = tt
+plain-shaped AccelerationStructure t = tt
+plain-shaped RayQuery t = tt
+plain-shaped (BindingArray b n) t = tt
+
+pub plain-shape : (i : TypeInner) (l : Shape) → T (plainEntry i) → shapeOf i ≡ some l → T (plainType (opcodeOf l))
+plain-shape i l t e = subst PlainShaped e (plain-shaped i t)
 
 -- ---- strides
 

@@ -2,6 +2,7 @@ pub mod Truth
 pub mod Rows
 pub mod Lists
 pub mod Sizes
+pub mod Images
 pub mod ByShape
 pub mod Sound
 pub mod Finding

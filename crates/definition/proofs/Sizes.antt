@@ -2,6 +2,8 @@
 -- lie under any bound that both do, and at the end, once the ids are few, under 2^32.
 use Prim.Native.Nat.{ℕ, _<_, _≤_}
 use mathlib.Core.List.{List, [], _∷_, _++_}
+use mathlib.Core.Logic.{_⊎_}
+use mathlib.Core.Path.{_≡_}
 use native.Mathlib.Omega.{arith}
 use lib.ListN.{length}
 use Rattle.definition.specs.Instructions.{Instruction, body}
@@ -33,6 +35,10 @@ pub record Sized (last : ℕ) (d : Instruction) : Type 0 where
 pub sized-up : (a b : ℕ) (d : Instruction) → a ≤ b → Sized a d → Sized b d
 sized-up a b d l h = record { words = λ B p q. h .words B p (omega arith); short = h .short }
 
+-- an image's operand Sampled
+abbrev pub SampledOrStorage : ℕ → Type 0
+SampledOrStorage s = (s ≡ 1) ⊎ (s ≡ 2)
+
 -- a shape whose numbers fit; widths are so small that they fit in bits too
 abbrev pub SmallKind : Kind → Type 0
 SmallKind (sint w) = w ≤ 255
@@ -47,7 +53,7 @@ SmallShape (matrix c r w) = (c ≤ W) × (r ≤ W) × (w ≤ 255)
 SmallShape (pointer b c) = c ≤ W
 SmallShape (valuePointer one k c) = (c ≤ W) × SmallKind k
 SmallShape (valuePointer (many n) k c) = (c ≤ W) × (n ≤ W) × SmallKind k
-SmallShape (image k d p a m s f) = SmallKind k × Under W (d ∷ p ∷ a ∷ m ∷ s ∷ f ∷ [])
+SmallShape (image k d p a m s f) = SmallKind k × Under W (d ∷ p ∷ a ∷ m ∷ s ∷ f ∷ []) × SampledOrStorage s
 SmallShape sampler = Unit
 SmallShape accelerationStructure = Unit
 SmallShape rayQuery = Unit

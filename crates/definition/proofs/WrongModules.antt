@@ -1,20 +1,20 @@
 -- Demand 3 says something: wrong modules that it turns down, each by the clause meant for it, and a name that has no reading
 -- without its closing zero.
 use Prim.Native.Nat.{ℕ}
-use mathlib.Core.Path.{_≡_, refl, ap}
-use mathlib.Core.List.{List, [], _∷_, List·Memᴰ·head, List·Memᴰ·eq-of-singleton}
+use mathlib.Core.Path.{_≡_, refl, sym, _∙_}
+use mathlib.Core.List.{List, [], _∷_, List·Memᴰ·head}
 use mathlib.Core.Option.{some, none}
 use native.Mathlib.Decide.{ℕ-discrete}
 use native.Mathlib.Omega.{arith}
-use lib.Dec.{lit<}
-use lib.ListN.{getD}
-use Rattle.definition.specs.Instructions.{Instruction, capability, typeFloat, typeInt, typeVector, decorate}
-use Rattle.definition.specs.Numbers.{CapabilityInt8, DecorationArrayStride}
+use lib.Dec.{T, lit<}
+use Rattle.definition.specs.Instructions.{Instruction, capability, typeFloat, typeInt, typeVector, typeMatrix, typeImage, decorate}
+use Rattle.definition.specs.Numbers.{CapabilityInt8, CapabilitySampled1D, CapabilityImage1D, CapabilityStorageImageExtendedFormats, DecorationArrayStride, Dim1D, Dim2D, ImageFormatUnknown, ImageFormatR32f, ImageFormatRg32f}
 use Rattle.definition.specs.Reader.{uses, readModule, readAll, isString}
-use Rattle.definition.specs.Shapes.{Key, entry, scalar, float, kindOf, sameKey}
-use Rattle.definition.specs.Sheet.{TypeInner, TypeEntry, Scalar, Atomic}
-use Rattle.definition.specs.State.{State, occurrences, lookup, idOf}
-use Rattle.definition.specs.WellDeclared.{WellDeclared, EntriesDeclared, Declares, alone, over, times, targets, targetOf, needs, needed, listedIn, listedBy}
+use Rattle.definition.specs.ReadTypes.{declarationOf, readScalar, readVector, readType}
+use Rattle.definition.specs.Shapes.{Key, Shape, entry, scalar, matrix, image, sint, uint, float, kindOf, imageOf, shapeOf, sameKey}
+use Rattle.definition.specs.Sheet.{TypeInner, TypeEntry, Scalar, Atomic, Matrix, Image}
+use Rattle.definition.specs.State.{State, occurrences, lookup}
+use Rattle.definition.specs.WellDeclared.{WellDeclared, EntriesDeclared, plainEntry, times, targets, targetOf, needs, needed, listedIn, listedBy}
 
 -- numbers handed out for entries that are not declared
 missing : WellDeclared 0 2 [] → ⊥
@@ -67,17 +67,54 @@ entered ks = record { last = 2; types = ks; constants = record { literals = []; 
 two-ids : (is : List Instruction) → EntriesDeclared (unnamed (Scalar 2 4) ∷ unnamed (Atomic 2 4) ∷ []) (entered ((entry 0, 1) ∷ (entry 1, 2) ∷ [])) is → ⊥
 unfolding lookup sameKey kindOf ℕ-discrete
 two-ids is h =
-    let e : _≡_ {A = ℕ} 1 2 = h .shared 0 1 (scalar (float 4)) (scalar (float 4)) 1 2 (unnamed (Scalar 2 4), refl, refl, tt) (unnamed (Atomic 2 4), refl, refl, tt) refl refl .1 refl in
+    let e : _≡_ {A = ℕ} 1 2 = h .shared 0 1 (scalar (float 4)) (scalar (float 4)) 1 2 (unnamed (Scalar 2 4), refl, tt, refl) (unnamed (Atomic 2 4), refl, tt, refl) refl refl .1 refl in
     omega arith
 
--- an entry whose shape the words do not declare: 64 bits in place of 32
-other-shape : EntriesDeclared (unnamed (Scalar 2 4) ∷ []) (entered ((entry 0, 1) ∷ [])) (typeFloat 1 64 ∷ []) → ⊥
-unfolding kindOf
-other-shape h = go (h .declared 0 (scalar (float 4)) (unnamed (Scalar 2 4), refl, refl, tt))
-  where
-    go : (i : ℕ) × (idOf (entered ((entry 0, 1) ∷ [])) (entry 0) ≡ some i) × Declares (typeFloat 1 64 ∷ []) (scalar (float 4)) i → ⊥
-    go (i, e, alone n m) = let f : _≡_ {A = List ℕ} (32 ∷ []) (64 ∷ []) = ap (λ (x : Instruction). x .operands) (List·Memᴰ·eq-of-singleton m) in omega (arith, ap (λ (xs : List ℕ). getD xs 0 0) f)
-    go (i, e, over n m d) = let z : _≡_ {A = ℕ} 0 1 = cc in omega arith
+-- entries whose shape the words do not declare; what the reader finds in their place is another shape
+module _ (t : TypeInner) (l m : Shape) (is : List Instruction) (shaped : shapeOf t ≡ some l) (plain : T (plainEntry t)) (found : readType is 1 ≡ some m) where
+  other-shape : EntriesDeclared (unnamed t ∷ []) (entered ((entry 0, 1) ∷ [])) is → l ≡ m
+  unfolding lookup sameKey ℕ-discrete
+  other-shape h =
+      let q = h .declared 0 l (unnamed t, refl, plain, shaped) in
+      let e : some 1 ≡ some (q .0) = q .1 in
+      let i : 1 ≡ q .0 = cc in
+      let f : readType is 1 ≡ some l = rw (← i) at (q .2) in
+      let g : some l ≡ some m = sym f ∙ found in
+      cc
+
+-- 64 bits in place of 32
+other-width : EntriesDeclared (unnamed (Scalar 2 4) ∷ []) (entered ((entry 0, 1) ∷ [])) (typeFloat 1 64 ∷ []) → ⊥
+unfolding kindOf readType declarationOf
+other-width h = let e : scalar (float 4) ≡ scalar (float 8) = other-shape (Scalar 2 4) (scalar (float 4)) (scalar (float 8)) (typeFloat 1 64 ∷ []) refl tt refl h in let z : _≡_ {A = ℕ} 4 8 = cc in omega arith
+
+-- unsigned in place of signed
+other-sign : EntriesDeclared (unnamed (Scalar 0 4) ∷ []) (entered ((entry 0, 1) ∷ [])) (typeInt 1 32 0 ∷ []) → ⊥
+unfolding kindOf readType declarationOf
+other-sign h = let e : scalar (sint 4) ≡ scalar (uint 4) = other-shape (Scalar 0 4) (scalar (sint 4)) (scalar (uint 4)) (typeInt 1 32 0 ∷ []) refl tt refl h in let z : _≡_ {A = ℕ} 0 1 = cc in omega arith
+
+-- two columns of three rows in place of three columns of two
+columns-for-rows : EntriesDeclared (unnamed (Matrix 3 2 4) ∷ []) (entered ((entry 0, 1) ∷ [])) (typeFloat 3 32 ∷ typeVector 2 3 3 ∷ typeMatrix 1 2 2 ∷ []) → ⊥
+unfolding readType readVector readScalar declarationOf
+columns-for-rows h =
+    let e : matrix 3 2 4 ≡ matrix 2 3 4 = other-shape (Matrix 3 2 4) (matrix 3 2 4) (matrix 2 3 4) (typeFloat 3 32 ∷ typeVector 2 3 3 ∷ typeMatrix 1 2 2 ∷ []) refl tt refl h in
+    let z : _≡_ {A = ℕ} 3 2 = cc in omega arith
+
+-- a multisampled image in place of a depth image
+multisampled-for-depth : EntriesDeclared (unnamed (Image 1 0 1 0 0) ∷ []) (entered ((entry 0, 1) ∷ [])) (typeFloat 2 32 ∷ typeImage 1 2 Dim2D 0 0 1 1 ImageFormatUnknown ∷ []) → ⊥
+unfolding imageOf readType readScalar declarationOf
+multisampled-for-depth h =
+    let e : image (float 4) Dim2D 1 0 0 1 ImageFormatUnknown ≡ image (float 4) Dim2D 0 0 1 1 ImageFormatUnknown = other-shape (Image 1 0 1 0 0) (image (float 4) Dim2D 1 0 0 1 ImageFormatUnknown) (image (float 4) Dim2D 0 0 1 1 ImageFormatUnknown) (typeFloat 2 32 ∷ typeImage 1 2 Dim2D 0 0 1 1 ImageFormatUnknown ∷ []) refl tt refl h in
+    let z : _≡_ {A = ℕ} 1 0 = cc in omega arith
+
+-- ---- capabilities of images: a 1D storage image needs Image1D, and Rg32f StorageImageExtendedFormats
+
+sampled-for-storage : WellDeclared 0 3 (capability CapabilitySampled1D ∷ typeFloat 1 32 ∷ typeImage 2 1 Dim1D 0 0 0 2 ImageFormatR32f ∷ []) → ⊥
+unfolding occurrences needs needed listedIn listedBy
+sampled-for-storage h = omega (arith, h .capabilities CapabilityImage1D)
+
+format-unlisted : WellDeclared 0 3 (typeFloat 1 32 ∷ typeImage 2 1 Dim2D 0 0 0 2 ImageFormatRg32f ∷ []) → ⊥
+unfolding occurrences needs needed listedIn listedBy
+format-unlisted h = omega (arith, h .capabilities CapabilityStorageImageExtendedFormats)
 
 -- a name without its closing zero has no reading; with it, it has one
 unclosed : readModule (0x07230203 ∷ 0x00010300 ∷ 28 ∷ 2 ∷ 0 ∷ 0x00030005 ∷ 1 ∷ 0x64636261 ∷ 0x00030016 ∷ 1 ∷ 32 ∷ []) ≡ none

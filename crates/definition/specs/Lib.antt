@@ -15,5 +15,6 @@ pub mod Unfit
 pub mod Operations
 pub mod Answered
 pub mod Reader
+pub mod ReadTypes
 pub mod WellDeclared
 pub mod Examples

@@ -1,21 +1,23 @@
 -- Demand 3, of what a reader finds in the words ("Demand 3's words" and the mission's third demand), one field a clause.
 use Prim.Native.Nat.{ℕ, _+_, _<_, _≤_, min}
-use mathlib.Core.Bool.{Bool, true, false}
+use mathlib.Core.Bool.{Bool, true, false, _&&_, _||_}
 use mathlib.Core.List.{List, [], _∷_, _++_, List·Memᴰ}
 use mathlib.Core.Logic.{_↔_}
 use mathlib.Core.Option.{Option, some, none}
 use mathlib.Core.Path.{_≡_}
 use lib.Dec.{eqb, T}
 use lib.ListN.{getElem?, take, drop}
-use Rattle.definition.specs.Choice.{pick, among}
+use Rattle.definition.specs.Choice.{pick, among, within}
 use Rattle.definition.specs.Numbers.{OpName, OpMemberName, OpCapability, OpTypeBool, OpTypeInt, OpTypeFloat, OpTypeVector, OpTypeMatrix, OpTypeImage, OpTypeSampler, OpDecorate, OpMemberDecorate, OpTypeRayQueryKHR, OpTypeAccelerationStructureKHR}
-use Rattle.definition.specs.Numbers.{CapabilityFloat64, CapabilityInt64, CapabilityInt16, CapabilityInt8, CapabilityRayQueryKHR}
+use Rattle.definition.specs.Numbers.{CapabilityFloat64, CapabilityInt64, CapabilityInt16, CapabilityInt8, CapabilitySampled1D, CapabilityImage1D, CapabilitySampledCubeArray, CapabilityImageCubeArray, CapabilityStorageImageExtendedFormats, CapabilityRayQueryKHR}
+use Rattle.definition.specs.Numbers.{Dim1D, DimCube, ImageFormatRg32f, ImageFormatR8Snorm, ImageFormatRg32i, ImageFormatR8i, ImageFormatRgb10a2ui, ImageFormatR8ui}
 use Rattle.definition.specs.Instructions.{Instruction, version, generator}
 use Rattle.definition.specs.Reader.{layoutOf, idsAmong, uses, Module, readModule}
-use Rattle.definition.specs.Sheet.{TypeEntry, startOf}
-use Rattle.definition.specs.Shapes.{Shape, shapeOf, inner, opcodeOf, typeOf, entry, shape}
+use Rattle.definition.specs.ReadTypes.{operand, readType}
+use Rattle.definition.specs.Sheet.{TypeInner, TypeEntry, startOf}
+use Rattle.definition.specs.Sheet.{Scalar, Vector, Matrix, Atomic, Pointer, ValuePointer, Array, Struct, Image, Sampler, AccelerationStructure, RayQuery, BindingArray}
+use Rattle.definition.specs.Shapes.{Shape, shapeOf, entry}
 use Rattle.definition.specs.State.{State, same, occurrences, idOf, boundOf, instructions, moduleWords}
-use Rattle.definition.specs.Finding.{formatCapabilities, dimCapabilities}
 use Rattle.definition.specs.Tests.{fit}
 use Rattle.definition.specs.Operations.{Progress, judged, Written, declare}
 
@@ -64,31 +66,42 @@ unfoldable pub listedIn : List Instruction → List ℕ
 listedIn [] = []
 listedIn (i ∷ is) = listedBy i ++ listedIn is
 
--- "integers of 8, 16, 64 bits .. and 64-bit floats"; the first operand is the width in bits
-abbrev pub intNeeds : List ℕ → List ℕ
-intNeeds [] = []
-intNeeds (bits ∷ xs) = pick (eqb bits 8) (CapabilityInt8 ∷ []) (pick (eqb bits 16) (CapabilityInt16 ∷ []) (pick (eqb bits 64) (CapabilityInt64 ∷ []) []))
+-- "integers of 8, 16, 64 bits Int8, Int16, Int64 and 64-bit floats Float64"; the operand Width is in bits
+abbrev pub intNeeds : ℕ → List ℕ
+intNeeds width = pick (eqb width 8) (CapabilityInt8 ∷ []) (pick (eqb width 16) (CapabilityInt16 ∷ []) (pick (eqb width 64) (CapabilityInt64 ∷ []) []))
 
-abbrev pub floatNeeds : List ℕ → List ℕ
-floatNeeds [] = []
-floatNeeds (bits ∷ xs) = pick (eqb bits 64) (CapabilityFloat64 ∷ []) []
+abbrev pub floatNeeds : ℕ → List ℕ
+floatNeeds width = pick (eqb width 64) (CapabilityFloat64 ∷ []) []
 
--- sampled type, dim, depth, arrayed, multisampled, sampled, format
-abbrev pub imageNeeds : List ℕ → List ℕ
-imageNeeds (t ∷ (d ∷ (p ∷ (a ∷ (m ∷ (s ∷ (f ∷ xs))))))) = formatCapabilities f ++ dimCapabilities d a s
-imageNeeds (t ∷ (d ∷ (p ∷ (a ∷ (m ∷ (s ∷ [])))))) = []
-imageNeeds (t ∷ (d ∷ (p ∷ (a ∷ (m ∷ []))))) = []
-imageNeeds (t ∷ (d ∷ (p ∷ (a ∷ [])))) = []
-imageNeeds (t ∷ (d ∷ (p ∷ []))) = []
-imageNeeds (t ∷ (d ∷ [])) = []
-imageNeeds (t ∷ []) = []
-imageNeeds [] = []
+-- "formats as in `request_image_format_capabilities`", which are, in the Specification's order of them, Rg32f (6) to R8Snorm (20),
+-- Rg32i (25) to R8i (29) and Rgb10a2ui (34) to R8ui (39)
+abbrev pub extendedFormat : ℕ → Bool
+extendedFormat f = within ImageFormatRg32f ImageFormatR8Snorm f || within ImageFormatRg32i ImageFormatR8i f || within ImageFormatRgb10a2ui ImageFormatR8ui f
+
+abbrev pub formatNeeds : ℕ → List ℕ
+formatNeeds imageFormat = pick (extendedFormat imageFormat) (CapabilityStorageImageExtendedFormats ∷ []) []
+
+-- "D1 Sampled1D or, for storage, Image1D; arrayed Cube SampledCubeArray or ImageCubeArray"; the operand Sampled is 2 for storage
+abbrev pub dimNeeds : ℕ → ℕ → ℕ → List ℕ
+dimNeeds dim arrayed sampled =
+    pick (eqb sampled 2)
+    (pick (eqb dim Dim1D) (CapabilityImage1D ∷ []) (pick (eqb dim DimCube && eqb arrayed 1) (CapabilityImageCubeArray ∷ []) []))
+    (pick (eqb dim Dim1D) (CapabilitySampled1D ∷ []) (pick (eqb dim DimCube && eqb arrayed 1) (CapabilitySampledCubeArray ∷ []) []))
+
+-- the operands of OpTypeImage: Sampled Type, Dim, Depth, Arrayed, MS, Sampled, Image Format
+abbrev pub imageNeeds : Instruction → List ℕ
+imageNeeds i =
+    let dim = operand i 1 in
+    let arrayed = operand i 3 in
+    let sampled = operand i 5 in
+    let imageFormat = operand i 6 in
+    formatNeeds imageFormat ++ dimNeeds dim arrayed sampled
 
 unfoldable pub needs : Instruction → List ℕ
 needs i =
-    pick (eqb (i .opcode) OpTypeInt) (intNeeds (i .operands))
-    (pick (eqb (i .opcode) OpTypeFloat) (floatNeeds (i .operands))
-    (pick (eqb (i .opcode) OpTypeImage) (imageNeeds (i .operands))
+    pick (eqb (i .opcode) OpTypeInt) (intNeeds (operand i 0))
+    (pick (eqb (i .opcode) OpTypeFloat) (floatNeeds (operand i 0))
+    (pick (eqb (i .opcode) OpTypeImage) (imageNeeds i)
     (pick (among (i .opcode) (OpTypeAccelerationStructureKHR ∷ OpTypeRayQueryKHR ∷ [])) (CapabilityRayQueryKHR ∷ []) [])))
 
 -- how often a capability is needed
@@ -126,21 +139,33 @@ pub record WellDeclared (start bound : ℕ) (is : List Instruction) : Type 0 whe
   -- "no two type declarations .. equal"
   pub no-equal-types : NoEqualTypes is
 
--- ---- "the words declare its shape under that id", all the way down
+-- ---- entries of "such types"
 
-pub data Declares (is : List Instruction) : Shape → ℕ → Type 0 where
-  alone : {l : Shape} {id : ℕ} → inner l ≡ none → List·Memᴰ (typeOf l id 0 0) is → Declares is l id
-  over : {l m : Shape} {id x : ℕ} → inner l ≡ some (shape m) → List·Memᴰ (typeOf l id x 0) is → Declares is m x → Declares is l id
+-- "Aggregates are OpTypeArray, OpTypeRuntimeArray and OpTypeStruct (tags 22, 23, 28), pointers OpTypePointer (20, 21).": the others
+abbrev pub plainEntry : TypeInner → Bool
+plainEntry (Scalar k w) = true
+plainEntry (Vector n k w) = true
+plainEntry (Matrix c r w) = true
+plainEntry (Atomic k w) = true
+plainEntry (Pointer b s a) = false
+plainEntry (ValuePointer n k w s a) = false
+plainEntry (Array b n d) = false
+plainEntry (Struct n ms) = false
+plainEntry (Image d a c x y) = true
+plainEntry (Sampler c) = true
+plainEntry AccelerationStructure = true
+plainEntry RayQuery = true
+plainEntry (BindingArray b n) = false
 
--- the entry with an index is of a shape
+-- the entry with an index is of such a type, and of a shape
 abbrev pub HasShape : List TypeEntry → ℕ → Shape → Type 0
-HasShape ts h l = (t : TypeEntry) × (getElem? ts h ≡ some t) × (shapeOf (t .inner) ≡ some l) × T (plainType (opcodeOf l))
+HasShape ts h l = (t : TypeEntry) × (getElem? ts h ≡ some t) × T (plainEntry (t .inner)) × (shapeOf (t .inner) ≡ some l)
 
 -- "Two entries of such types get one id exactly when their shapes are equal, an entry's id being the one document 01's rules give
 -- it, and the words declare its shape under that id."
 pub record EntriesDeclared (ts : List TypeEntry) (s : State) (is : List Instruction) : Type 0 where
   pub shared : (h g : ℕ) (l m : Shape) (i j : ℕ) → HasShape ts h l → HasShape ts g m → idOf s (entry h) ≡ some i → idOf s (entry g) ≡ some j → (i ≡ j) ↔ (l ≡ m)
-  pub declared : (h : ℕ) (l : Shape) → HasShape ts h l → (i : ℕ) × (idOf s (entry h) ≡ some i) × Declares is l i
+  pub declared : (h : ℕ) (l : Shape) → HasShape ts h l → (i : ℕ) × (idOf s (entry h) ≡ some i) × (readType is i ≡ some l)
 
 -- ---- demand 3, whole: "Whatever sheet Declare accepts, whoever reads its words by that specification finds .."
 

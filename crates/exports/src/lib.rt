@@ -4,10 +4,9 @@ use declarations::Verdict;
 use declarations::Wrapping;
 use module_layout::Answer;
 ghost use mathlib.Core.Path.{_≡_};
-ghost use Rattle.definition.specs.Operations.{check, wrapped};
 ghost use Rattle.module_layout.specs.Finished.{answerOf};
 ghost use Rattle.declarations.specs.Promise.{verdictAs, wrappingAs};
-ghost use Rattle.exports.specs.Numbers.{verdictNumber, answerNumber, wrappingNumber, Exported};
+ghost use Rattle.exports.specs.Numbers.{verdictNumber, answerNumber, wrappingNumber, CheckExported, DeclareExported, WrappedExported};
 
 fn number_of_verdict(v: Verdict) -> u32
     ensures { λ n. ⌜ n ≡ verdictNumber (verdictAs v) ⌝ }
@@ -44,7 +43,7 @@ fn number_of_wrapping(w: Wrapping) -> u32
 // Check: 0 for Fit, else the number of the refusal.
 #[no_mangle]
 pub extern "C" fn voulkrod_check(sheet: &[u8]) -> u32
-    ensures { λ n. ⌜ n ≡ verdictNumber (check (now (sheet .entry))) ⌝ }
+    ensures { λ n. ⌜ CheckExported (now (sheet .entry)) n ⌝ }
 {
     number_of_verdict(declarations::check(sheet))
 }
@@ -53,7 +52,7 @@ pub extern "C" fn voulkrod_check(sheet: &[u8]) -> u32
 // never 0; else the number of the refusal.
 #[no_mangle]
 pub extern "C" fn voulkrod_declare(sheet: &[u8], words: &mut [u32]) -> u64
-    ensures { λ n. ⌜ Exported (now (sheet .entry)) (now (words .entry)) n (now (words .exit)) ⌝ }
+    ensures { λ n. ⌜ DeclareExported (now (sheet .entry)) (now (words .entry)) n (now (words .exit)) ⌝ }
 {
     number_of_answer(declarations::declare(sheet, words))
 }
@@ -61,7 +60,7 @@ pub extern "C" fn voulkrod_declare(sheet: &[u8], words: &mut [u32]) -> u64
 // Wrapped: 256 for no, 257 for yes, else the number of the refusal.
 #[no_mangle]
 pub extern "C" fn voulkrod_wrapped(sheet: &[u8], index: usize) -> u32
-    ensures { λ n. ⌜ n ≡ wrappingNumber (wrapped (now (sheet .entry)) index) ⌝ }
+    ensures { λ n. ⌜ WrappedExported (now (sheet .entry)) index n ⌝ }
 {
     number_of_wrapping(declarations::wrapped(sheet, index))
 }

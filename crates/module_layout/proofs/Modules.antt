@@ -111,7 +111,7 @@ module-put w S bound out room fits y2 y3 y4 y5 r2 r3 r4 r5 f s3 s4 s5 =
 module _ (w : Writer) (S out : List ℕ) where
   -- 15
   pub passes : boundMost ≤ w .idgen .last → Finished w S out (Refused 15) out
-  passes h = record { says = λ p T held fits. simp (lt-leb (boundOf (p .state)) boundMost (omega (arith, held .last))) }
+  passes h = record { says = λ p T held fits. simp (lt-leb (boundOf (p .state)) boundMost (omega (arith, held .last))); counted = tt }
 
   module _ (low : w .idgen .last < boundMost) (room : RoomFor nothing w S) where
     -- 16
@@ -121,15 +121,17 @@ module _ (w : Writer) (S out : List ℕ) where
           let e = same-words w T S (p .state) held (fits (omega (arith, held .last))) in
           let l : length out < length (moduleWords (p .state)) = omega (arith, ap length e, count-is w S room (boundOf (p .state))) in
           simp (le-leb (boundOf (p .state)) boundMost (omega (arith, held .last)), lt-leb (length (moduleWords (p .state))) (length out) l);
+      counted = tt;
     }
 
-    pub written : (bound n m : ℕ) (after : List ℕ) → bound ≡ w .idgen .last + 1 → n ≡ countOf w → n ≤ length out → Put (wordsIn w S bound) out after m
+    pub written : (bound n m : ℕ) (after : List ℕ) → bound ≡ w .idgen .last + 1 → n ≡ countOf w → n ≤ length out → w .bytes ≤ 65536 → Put (wordsIn w S bound) out after m
         → Finished w S out (Written n bound) after
-    written bound n m after eb en h q = record {
+    written bound n m after eb en h few q = record {
       says = λ p T held fits.
           let eq : bound ≡ boundOf (p .state) = omega (arith, held .last) in
           let e : wordsIn w S bound ≡ moduleWords (p .state) = rw eq (same-words w T S (p .state) held (fits (omega (arith, held .last)))) in
           let l : length (moduleWords (p .state)) ≡ n = omega (arith, ap length e, count-is w S room bound) in
           let f : after ≡ put (moduleWords (p .state)) out = q .words ∙ ap (λ (ws : List ℕ). put ws out) e in
           simp (le-leb (boundOf (p .state)) boundMost (omega (arith, held .last)), le-leb (length (moduleWords (p .state))) (length out) (omega arith)) cc;
+      counted = omega (arith, few, room .in-capabilities, room .in-names, room .in-annotations, room .in-declarations);
     }

@@ -1,5 +1,5 @@
 -- What the last stage promises of any state that the writer holds.
-use Prim.Native.Nat.{ℕ, _+_, _*_, _≤_}
+use Prim.Native.Nat.{ℕ, _+_, _*_, _<_, _≤_}
 use mathlib.Core.Path.{_≡_}
 use mathlib.Core.Bool.{true}
 use mathlib.Core.List.{List, _++_}
@@ -57,6 +57,12 @@ pub record Roomy (w : Writer) (S : List ℕ) : Type 0 where
 abbrev pub Worded : State → Type 0
 Worded s = boundOf s ≤ boundMost → every isWord (moduleWords s) ≡ true
 
+-- a word count has 32 bits
+abbrev pub Counted : Answer → Type 0
+Counted (Written n bound) = n < 4294967296
+Counted (Refused n) = Unit
+
 pub record Finished (w : Writer) (S before : List ℕ) (r : Answer) (after : List ℕ) : Type 0 where
   pub says : (p : Progress) (T : List ℕ) → Held w T S (p .state) → Worded (p .state)
       → declaredAs r after ≡ declaredOf before (boundTest (fit p))
+  pub counted : Counted r

@@ -19,7 +19,7 @@ returns-2 c =
 returns-3 : tie.Need-returns-3
 returns-3 c =
     let e = c .before .before .before .before .before .before .before .before .before .before .before .before in
-    written (e .args .w) (e .args .sections .now) (e .args .out .now) (omega (arith, c .before .before .before .before .before .before .before .if1 .left)) (e .pre .room) _ _ _ _ refl (c .before .before .before .before .before .before .module-count .ensures) (c .before .before .before .before .before .if2 .left) (c .before .before .put-module .ensures)
+    written (e .args .w) (e .args .sections .now) (e .args .out .now) (omega (arith, c .before .before .before .before .before .before .before .if1 .left)) (e .pre .room) _ _ _ _ refl (c .before .before .before .before .before .before .module-count .ensures) (c .before .before .before .before .before .if2 .left) (e .pre .few) (c .before .before .put-module .ensures)
 
 pub write-module-spec : {M : Type 1} → statement M
 write-module-spec =
