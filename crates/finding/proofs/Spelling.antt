@@ -9,7 +9,7 @@ use Rattle.definition.specs.Shapes.{Shape, storageClass, typeOf}
 use Rattle.definition.specs.Shapes.{sint, uint, float, bool, one, many, scalar, vector, matrix, pointer, valuePointer, image, sampler, accelerationStructure, rayQuery, bindingArray, bindingPointer}
 use Rattle.definition.proofs.Inners.{class-small}
 use Rattle.lookup.specs.Packed.{SmallShape}
-use Rattle.writer.specs.Rows.{low}
+use Rattle.spirv.specs.Ids.{low}
 use Rattle.finding.specs.Costs.{longer}
 
 low-small : (n : ℕ) → n < 4294967296 → low n ≡ n

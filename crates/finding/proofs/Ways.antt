@@ -7,7 +7,7 @@ use mathlib.Core.List.{List, [], _∷_, _++_, map}
 use mathlib.Core.Option.{Option, some, none}
 use native.Mathlib.Omega.{arith}
 use Rattle.definition.specs.Literals.{Literal, u32, sameLiteral}
-use Rattle.definition.specs.Instructions.{Instruction, words, plain, constantNull}
+use Rattle.definition.specs.Instructions.{Instruction, words, constantNull}
 use Rattle.definition.specs.Shapes.{Shape, Key, sameKey, inner, sized, rank, rankOf, typeOf, uint, scalar, entry, shape}
 use Rattle.definition.specs.State.{State, Constants, Got, got, lookup, takeId, enter, declare, declareWith, withConstants, listed, listOne, occurrences}
 use Rattle.definition.specs.Finding.{find, findAt, orNewKey, newKey, declareShape, innerGot, lengthGot, literal, literalWith, orNewValue, newValue, literalKind, literalOp, enterLiteral, nullOf, orNewNull, capabilitiesOf}
@@ -20,11 +20,12 @@ use Rattle.writer.specs.declared.Writer.{Writer}
 use Rattle.writer.specs.declared.Taken.{Taken}
 use Rattle.writer.specs.declared.Sought.{Sought}
 use Rattle.writer.specs.declared.Sought.the-variants.{Id, Absent}
-use Rattle.writer.specs.Rows.{soughtOf, low}
+use Rattle.spirv.specs.Ids.{low}
+use Rattle.writer.specs.Rows.{soughtOf}
 use Rattle.writer.specs.Regions.{sectionAt, declarations, more}
 use Rattle.writer.specs.Cost.{Cost, declaring}
 use Rattle.writer.specs.Held.{Held, RoomFor, Grown}
-use Rattle.writer.specs.Steps.{Kept, Gives, GotBy, Took, FindsType, FindsLiteral, FindsNull, EnteredType, EnteredLiteral, EnteredNull, noteNull, Adds, Puts, Listed, listing}
+use Rattle.writer.specs.Steps.{Kept, Gives, GotBy, Took, FindsType, FindsLiteral, FindsNull, EnteredType, EnteredLiteral, EnteredNull, noteNull, Puts, Listed, listing}
 use Rattle.writer.proofs.Words.{adds-put}
 use Rattle.finding.specs.Costs.{longer, within, costOf, literalCost, nullCost}
 use Rattle.finding.specs.Found.{below, shapeDeclared, ShapePut}
@@ -228,10 +229,9 @@ module _ (t : ℕ) (w : Writer) (T S : List ℕ) (r : Sought) (er : FindsNull t 
   pub null-old : (id : ℕ) → r ≡ Id id → GotBy nullCost (nullOf t) w T S (taken id w) T S
   null-old id e = got-old nullCost (nullOf t) w T S id (sought-null (Id id) e)
 
-  pub null-new : r ≡ Absent → (m : Taken) → Took w m → (t′ id′ : ℕ) → t′ ≡ low t → id′ ≡ low (m .id) → (v : Writer) (S₂ : List ℕ) → Adds declarations 3 (words (plain 46 (t′ ∷ id′ ∷ []))) (m .writer) S v S₂
+  pub null-new : r ≡ Absent → (m : Taken) → Took w m → (v : Writer) (S₂ : List ℕ) → Puts declarations 3 (constantNull t (m .id)) (m .writer) S v S₂
       → (u : Writer) (T₂ : List ℕ) → EnteredNull t (m .id) v T u T₂ → GotBy nullCost (nullOf t) w T S (taken (m .id) u) T₂ S₂
-  unfolding words
-  null-new e m p t′ id′ et ei v S₂ d u T₂ x =
+  null-new e m p v S₂ d u T₂ x =
       record {
         grown = omega (arith, p .grown, d .grown, x .grown);
         tail = record { parts = omega (arith, p .grown, d .grown, x .tail); ids = λ j l. x .tail .ids j (omega (arith, p .grown, d .grown)) };
@@ -239,8 +239,7 @@ module _ (t : ℕ) (w : Writer) (T S : List ℕ) (r : Sought) (er : FindsNull t 
             let ej : m .id ≡ suc (s .last) = p .named ∙ ap suc (h .last) in
             let o = sought-null Absent e s h in
             let i = constantNull t (m .id) in
-            let spelt : map low (words i) ≡ words (plain 46 (t′ ∷ id′ ∷ [])) = let e1 = sym et in let e2 = sym ei in λ j. 196654 ∷ e1 j ∷ e2 j ∷ [] in
-            let b = d .held i spelt T (takeId s) (p .held T S s h) in
+            let b = d .held T (takeId s) (p .held T S s h) in
             let y = x .held S₂ (declare i (takeId s)) b in
             record {
               named = ej ∙ sym (ap (λ (z : Got). z .id) o);

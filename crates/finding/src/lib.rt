@@ -8,14 +8,16 @@ use lookup::LocalType;
 use lookup::LookupType;
 use lookup::PointerClass;
 use lookup::VectorSize;
-use spirv::instructions::OP_CONSTANT;
-use spirv::instructions::OP_CONSTANT_FALSE;
-use spirv::instructions::OP_CONSTANT_NULL;
-use spirv::instructions::OP_CONSTANT_TRUE;
+use spirv::low_word;
 use writer::DECLARATIONS;
 use writer::Sought;
 use writer::Taken;
 use writer::Writer;
+use writer::sections::constant_32bit;
+use writer::sections::constant_64bit;
+use writer::sections::constant_false;
+use writer::sections::constant_null;
+use writer::sections::constant_true;
 ghost use mathlib.Core.Path.{_≡_};
 ghost use mathlib.Core.List.{List};
 ghost use Prim.Native.Nat.{ℕ};
@@ -50,9 +52,9 @@ fn put_declaration(sections: &mut [u32], w: Writer, l: LocalType, id: u64, x: u6
     let n = lookup::put_shape(
         &mut sections[start..],
         l,
-        writer::low_word(id),
-        writer::low_word(x),
-        writer::low_word(y),
+        low_word(id),
+        low_word(x),
+        low_word(y),
     );
     b.declarations += n;
     b
@@ -146,22 +148,22 @@ fn write_literal(sections: &mut [u32], w: Writer, l: Literal, ty: u64, id: u64) 
     requires { ⌜ RoomFor (declaring 5) w (now sections) ⌝ }
     ensures { λ r. ⌜ Puts declarations 5 (literalOp (literalOf l) ty id) w (now (sections .entry)) r (now (sections .exit)) ⌝ }
 {
-    let x = writer::low_word(ty);
-    let y = writer::low_word(id);
     match literals::form(l) {
-        0 => writer::declare(
+        0 => constant_64bit(
             sections,
             w,
-            OP_CONSTANT,
-            &[x, y, literals::low_word(l), literals::high_word(l)],
+            ty,
+            id,
+            literals::low_word(l),
+            literals::high_word(l),
         ),
         4 => {
             if literals::bits(l) == 1 {
-                return writer::declare(sections, w, OP_CONSTANT_TRUE, &[x, y]);
+                return constant_true(sections, w, ty, id);
             }
-            writer::declare(sections, w, OP_CONSTANT_FALSE, &[x, y])
+            constant_false(sections, w, ty, id)
         }
-        _ => writer::declare(sections, w, OP_CONSTANT, &[x, y, literals::low_word(l)]),
+        _ => constant_32bit(sections, w, ty, id, literals::low_word(l)),
     }
 }
 
@@ -205,12 +207,7 @@ pub fn write_constant_null(tables: &mut [u64], sections: &mut [u32], w: Writer, 
         Sought::Absent => {
             let m = writer::take_id(w);
             let id = m.id;
-            let v = writer::declare(
-                sections,
-                m.writer,
-                OP_CONSTANT_NULL,
-                &[writer::low_word(ty), writer::low_word(id)],
-            );
+            let v = constant_null(sections, m.writer, ty, id);
             let u = writer::enter_null(tables, v, ty, id);
             Taken { id, writer: u }
         }

@@ -18,7 +18,7 @@ use Rattle.definition.proofs.Truth.{both}
 use Rattle.spirv.specs.Put.{Put}
 use Rattle.spirv.specs.Sections.{Spliced}
 use Rattle.spirv.proofs.Puts.{Begun, more, part, back, behind}
-use Rattle.writer.specs.Rows.{low}
+use Rattle.spirv.specs.Ids.{low}
 use Rattle.writer.specs.Regions.{Section, names, annotations, declarations, sectionAt, used}
 use Rattle.writer.specs.Cost.{nothing}
 use Rattle.writer.specs.Held.{Held, RoomFor}

@@ -1,18 +1,24 @@
-// Names, capabilities, the types that are shapes, and the beginning of a composite constant, each put into what is left of a
-// lent buffer. Any other instruction is put by its opcode (`layout::put_plain`); the opcodes and decorations of document 01's
-// rules stand here. A writer's answer is how many words it put: 0 where they do not fit, and then nothing was written.
+// The instructions that document 01's rules show, each put into what is left of a lent buffer; their opcodes are this module's
+// own, and the decorations stand here by name. A writer's answer is how many words it put: 0 where they do not fit, and then
+// nothing was written. A list of ids is given as the tables hold them, and its words are taken here.
 //
 // Where an instruction takes a name or has parts, a bound on how many is required, with which the word count fits the high half
 // of the first word. Past it no `u32` is the right first word, so refusing there would be one more case in every contract; a
 // sheet's limits are far below the bound, so that callers meet it at once.
+ghost use mathlib.Core.List.{[], _∷_, map};
 ghost use Prim.Native.Nat.{_<_};
-ghost use Rattle.definition.specs.Instructions.{words, capability, name, memberName, typeBool, typeInt, typeFloat, typeVector, typeMatrix, typeImage, typeSampler, typeAccelerationStructure, typeRayQuery, typeArray, typePointer};
+ghost use Rattle.definition.specs.Instructions.{words, capability, name, memberName, typeBool, typeInt, typeFloat, typeVector, typeMatrix, typeImage, typeSampler, typeAccelerationStructure, typeRayQuery, typeArray, typeRuntimeArray, typeStruct, typePointer, decorate, memberDecorate, constantTrue, constantFalse, constantNull, constant, constantComposite, variable};
 ghost use Rattle.spirv.specs.Put.{Put, FitsWordCount};
-ghost use Rattle.spirv.specs.Heads.{compositeHead};
+ghost use Rattle.spirv.specs.Heads.{structHead};
+ghost use Rattle.spirv.specs.Ids.{low, initWord};
 use crate::layout::put_head;
+use crate::layout::put_id_list;
+use crate::layout::put_list;
 use crate::layout::put_name;
 use crate::layout::put_plain;
 use crate::layout::put_type;
+use crate::layout::put_value;
+use crate::low_word;
 
 const OP_NAME: u32 = 5;
 
@@ -34,29 +40,29 @@ const OP_TYPE_IMAGE: u32 = 25;
 
 const OP_TYPE_SAMPLER: u32 = 26;
 
-pub const OP_TYPE_ARRAY: u32 = 28;
+const OP_TYPE_ARRAY: u32 = 28;
 
-pub const OP_TYPE_RUNTIME_ARRAY: u32 = 29;
+const OP_TYPE_RUNTIME_ARRAY: u32 = 29;
 
-pub const OP_TYPE_STRUCT: u32 = 30;
+const OP_TYPE_STRUCT: u32 = 30;
 
-pub const OP_TYPE_POINTER: u32 = 32;
+const OP_TYPE_POINTER: u32 = 32;
 
-pub const OP_CONSTANT_TRUE: u32 = 41;
+const OP_CONSTANT_TRUE: u32 = 41;
 
-pub const OP_CONSTANT_FALSE: u32 = 42;
+const OP_CONSTANT_FALSE: u32 = 42;
 
-pub const OP_CONSTANT: u32 = 43;
+const OP_CONSTANT: u32 = 43;
 
 const OP_CONSTANT_COMPOSITE: u32 = 44;
 
-pub const OP_CONSTANT_NULL: u32 = 46;
+const OP_CONSTANT_NULL: u32 = 46;
 
-pub const OP_VARIABLE: u32 = 59;
+const OP_VARIABLE: u32 = 59;
 
-pub const OP_DECORATE: u32 = 71;
+const OP_DECORATE: u32 = 71;
 
-pub const OP_MEMBER_DECORATE: u32 = 72;
+const OP_MEMBER_DECORATE: u32 = 72;
 
 const OP_TYPE_RAY_QUERY_KHR: u32 = 4472;
 
@@ -94,6 +100,28 @@ pub fn member_name(sink: &mut [u32], target: u32, member: u32, bytes: &[u8]) -> 
     ensures { λ r. ⌜ Put (words (memberName target member (now (bytes .entry)))) (now (sink .entry)) (now (sink .exit)) r ⌝ }
 {
     put_name(sink, OP_MEMBER_NAME, &[target, member], bytes)
+}
+
+// ---- annotations
+
+pub fn decorate(sink: &mut [u32], target: u32, decoration: u32, operands: &[u32]) -> usize
+    requires { ⌜ FitsWordCount (now operands) ⌝ }
+    ensures { λ r. ⌜ Put (words (decorate target decoration (now (operands .entry)))) (now (sink .entry)) (now (sink .exit)) r ⌝ }
+{
+    put_list(sink, OP_DECORATE, &[target, decoration], operands)
+}
+
+pub fn member_decorate(
+    sink: &mut [u32],
+    target: u32,
+    member: u32,
+    decoration: u32,
+    operands: &[u32],
+) -> usize
+    requires { ⌜ FitsWordCount (now operands) ⌝ }
+    ensures { λ r. ⌜ Put (words (memberDecorate target member decoration (now (operands .entry)))) (now (sink .entry)) (now (sink .exit)) r ⌝ }
+{
+    put_list(sink, OP_MEMBER_DECORATE, &[target, member, decoration], operands)
 }
 
 // ---- modes
@@ -189,6 +217,27 @@ pub fn type_array(sink: &mut [u32], id: u32, element: u32, size: u32) -> usize
     put_type(sink, OP_TYPE_ARRAY, &[id, element, size])
 }
 
+pub fn type_runtime_array(sink: &mut [u32], id: u32, element: u32) -> usize
+    ensures { λ r. ⌜ Put (words (typeRuntimeArray id element)) (now (sink .entry)) (now (sink .exit)) r ⌝ }
+{
+    put_type(sink, OP_TYPE_RUNTIME_ARRAY, &[id, element])
+}
+
+pub fn type_struct(sink: &mut [u32], id: u32, members: &[u64]) -> usize
+    requires { ⌜ FitsWordCount (now members) ⌝ }
+    ensures { λ r. ⌜ Put (words (typeStruct id (map low (now (members .entry))))) (now (sink .entry)) (now (sink .exit)) r ⌝ }
+{
+    put_id_list(sink, OP_TYPE_STRUCT, &[id], members)
+}
+
+// The beginning of an OpTypeStruct whose members' ids follow one by one.
+pub fn type_struct_head(sink: &mut [u32], id: u32, count: usize) -> usize
+    requires { ⌜ count < 65532 ⌝ }
+    ensures { λ r. ⌜ Put (structHead id count) (now (sink .entry)) (now (sink .exit)) r ⌝ }
+{
+    put_head(sink, count + 2, OP_TYPE_STRUCT, &[id])
+}
+
 pub fn type_pointer(sink: &mut [u32], id: u32, class: u32, base: u32) -> usize
     ensures { λ r. ⌜ Put (words (typePointer id class base)) (now (sink .entry)) (now (sink .exit)) r ⌝ }
 {
@@ -197,10 +246,56 @@ pub fn type_pointer(sink: &mut [u32], id: u32, class: u32, base: u32) -> usize
 
 // ---- constants
 
-// The beginning of an OpConstantComposite whose parts' ids follow one by one.
-pub fn constant_composite_head(sink: &mut [u32], ty: u32, id: u32, count: usize) -> usize
-    requires { ⌜ count < 65532 ⌝ }
-    ensures { λ r. ⌜ Put (compositeHead ty id count) (now (sink .entry)) (now (sink .exit)) r ⌝ }
+pub fn constant_true(sink: &mut [u32], ty: u32, id: u32) -> usize
+    ensures { λ r. ⌜ Put (words (constantTrue ty id)) (now (sink .entry)) (now (sink .exit)) r ⌝ }
 {
-    put_head(sink, count + 3, OP_CONSTANT_COMPOSITE, &[ty, id])
+    put_value(sink, OP_CONSTANT_TRUE, &[ty, id])
+}
+
+pub fn constant_false(sink: &mut [u32], ty: u32, id: u32) -> usize
+    ensures { λ r. ⌜ Put (words (constantFalse ty id)) (now (sink .entry)) (now (sink .exit)) r ⌝ }
+{
+    put_value(sink, OP_CONSTANT_FALSE, &[ty, id])
+}
+
+pub fn constant_null(sink: &mut [u32], ty: u32, id: u32) -> usize
+    ensures { λ r. ⌜ Put (words (constantNull ty id)) (now (sink .entry)) (now (sink .exit)) r ⌝ }
+{
+    put_value(sink, OP_CONSTANT_NULL, &[ty, id])
+}
+
+pub fn constant_32bit(sink: &mut [u32], ty: u32, id: u32, value: u32) -> usize
+    ensures { λ r. ⌜ Put (words (constant ty id (value ∷ []))) (now (sink .entry)) (now (sink .exit)) r ⌝ }
+{
+    put_value(sink, OP_CONSTANT, &[ty, id, value])
+}
+
+pub fn constant_64bit(sink: &mut [u32], ty: u32, id: u32, low: u32, high: u32) -> usize
+    ensures { λ r. ⌜ Put (words (constant ty id (low ∷ high ∷ []))) (now (sink .entry)) (now (sink .exit)) r ⌝ }
+{
+    put_value(sink, OP_CONSTANT, &[ty, id, low, high])
+}
+
+pub fn constant_composite(sink: &mut [u32], ty: u32, id: u32, parts: &[u64]) -> usize
+    requires { ⌜ FitsWordCount (now parts) ⌝ }
+    ensures { λ r. ⌜ Put (words (constantComposite ty id (map low (now (parts .entry))))) (now (sink .entry)) (now (sink .exit)) r ⌝ }
+{
+    put_id_list(sink, OP_CONSTANT_COMPOSITE, &[ty, id], parts)
+}
+
+// ---- variables
+
+// `Option<Word>`: the id that a variable begins with.
+pub enum Initializer {
+    Nothing,
+    Id(u64),
+}
+
+pub fn variable(sink: &mut [u32], ty: u32, id: u32, class: u32, init: Initializer) -> usize
+    ensures { λ r. ⌜ Put (words (variable ty id class (initWord init))) (now (sink .entry)) (now (sink .exit)) r ⌝ }
+{
+    match init {
+        Initializer::Nothing => put_value(sink, OP_VARIABLE, &[ty, id, class]),
+        Initializer::Id(x) => put_value(sink, OP_VARIABLE, &[ty, id, class, low_word(x)]),
+    }
 }

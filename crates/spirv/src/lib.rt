@@ -6,8 +6,9 @@ pub mod layout;
 pub mod layouter;
 pub mod words;
 
+ghost use mathlib.Core.Path.{_≡_};
 ghost use Prim.Native.Nat.{_^_, _<_};
-ghost use Rattle.spirv.specs.Ids.{Next};
+ghost use Rattle.spirv.specs.Ids.{Next, low};
 
 // Hands out ids. The last id given out is held in 64 bits: a sheet may say that ids up to 2^32 - 1 are given out already, and
 // its records are judged before the bound is, so the count must be able to pass 32 bits and not wrap.
@@ -30,4 +31,11 @@ impl IdGenerator {
         let id = self.last;
         NextId { id, idgen: self }
     }
+}
+
+// An id as a word. Ids are words only where the bound is known to be small enough.
+pub fn low_word(id: u64) -> u32
+    ensures { λ r. ⌜ r ≡ low id ⌝ }
+{
+    (id % 4294967296) as u32
 }

@@ -8,7 +8,8 @@ use Rattle.definition.specs.Instructions.{words, name, memberName, packed, litt
 use Rattle.spirv.specs.Put.{Put}
 use Rattle.spirv.proofs.Puts as Puts
 use Rattle.writer.specs.declared.Writer.{Writer}
-use Rattle.writer.specs.Rows.{part, low}
+use Rattle.spirv.specs.Ids.{low}
+use Rattle.writer.specs.Rows.{part}
 use Rattle.writer.specs.Regions.{sectionAt, names, more}
 use Rattle.writer.specs.Cost.{naming}
 use Rattle.writer.specs.Held.{RoomFor}

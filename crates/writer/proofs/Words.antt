@@ -11,15 +11,15 @@ use lib.ListN.{length, getD, take, drop, length-append, length-drop}
 use lib.Seq.{slice, slice-cons, slice-empty, length-take-le, take-suc, take-add, getD-drop, drop-drop}
 use borrow.Author.Tests.{eq-eqb, ne-eqb}
 use Rattle.definition.specs.Choice.{pick}
-use Rattle.definition.specs.Instructions.{Instruction, words, allWords, plain, constantComposite}
-use Rattle.spirv.specs.Heads.{compositeHead}
+use Rattle.definition.specs.Instructions.{Instruction, words, allWords}
 use Rattle.definition.specs.State.{State, occurrences, same, listOne, listed}
 use Rattle.spirv.specs.Put.{Put}
 use Rattle.spirv.specs.Sections.{splice}
 use Rattle.spirv.proofs.Puts as Puts
 use Rattle.lookup.specs.Local.{asList}
 use Rattle.writer.specs.declared.Writer.{Writer}
-use Rattle.writer.specs.Rows.{part, low, isListed}
+use Rattle.spirv.specs.Ids.{low}
+use Rattle.writer.specs.Rows.{part, isListed}
 use Rattle.writer.specs.Regions.{sectionAt, Section, names, annotations, declarations, used, more, addTo}
 use Rattle.writer.specs.Cost.{capabilitiesOf, declaring, wordsIn}
 use Rattle.writer.specs.Held.{Sections, tablesOf, sectionsOf, sectionsIn, wordsOf, Held, RoomFor}
@@ -114,52 +114,6 @@ module _ (w : Writer) (S ws : List ℕ) (n : ℕ) (few : length ws ≤ n) where
 -- the same of one instruction
 pub puts : (b : Section) (n : ℕ) (i : Instruction) (ws : List ℕ) → Spelt i ws → (w : Writer) (S : List ℕ) (v : Writer) (S′ : List ℕ) → Adds b n ws w S v S′ → PutsOne b n i w S v S′
 puts b n i ws e w S v S′ a = record { grown = a .grown; held = a .held i e }
-
-pub plain-count : (op : ℕ) (xs : List ℕ) → length (words (plain op xs)) ≡ suc (length xs)
-unfolding words
-plain-count op xs = refl
-
--- ---- a composite: its head, and its parts behind it
-
-map-length : (xs : List ℕ) → length (map low xs) ≡ length xs
-map-length [] = refl
-map-length (x ∷ xs) = ap suc (map-length xs)
-
-pub composite-low : (t id n : ℕ) (ps : List ℕ) → n < 65000 → length ps ≡ n → map low (words (constantComposite t id ps)) ≡ compositeHead (low t) (low id) n ++ map low ps
-unfolding words
-composite-low t id n ps h e =
-    let k : low (65536 * suc (suc (suc (length ps))) + 44) ≡ 65536 * (n + 3) + 44 = omega arith in
-    λ j. k j ∷ (low t ∷ (low id ∷ map low ps))
-
--- one part more
-pub put-more : (S : List ℕ) (p : ℕ) (T : List ℕ) (from i x q : ℕ) → from + i < length T → p + i < length S → x ≡ low (getD T (from + i) 0) → q ≡ p + i
-    → splice (splice S p (map low (part T from i))) q (x ∷ []) ≡ splice S p (map low (part T from (i + 1)))
-put-more S p T from i x q ht hs e eq =
-    let l : length (part T from i) ≡ i = length-take-le i (drop from T) (simp length-drop (omega arith)) in
-    let m : length (map low (part T from i)) ≡ i = map-length (part T from i) ∙ l in
-    let t : part T from i ++ getD T (from + i) 0 ∷ [] ≡ part T from (i + 1) =
-    sym (ap (λ (j : ℕ). part T from j) (add-one i) ∙ take-suc (drop from T) i 0 (simp length-drop (omega arith)) ∙ ap (λ (y : ℕ). part T from i ++ y ∷ []) (getD-drop from T i 0)) in
-    splice-splice S p (map low (part T from i)) q (x ∷ []) (omega arith) (omega arith)
-    ∙ ap (λ (y : ℕ). splice S p (map low (part T from i) ++ y ∷ [])) e
-    ∙ ap (splice S p) (sym (map-append (part T from i) (getD T (from + i) 0 ∷ [])) ∙ ap (map low) t)
-
-pub declares-composite : (w : Writer) (S z S₂ T : List ℕ) (t id t′ id′ n m from : ℕ) → n < 65000 → from + n ≤ length T → RoomFor (declaring (n + 3)) w S → t′ ≡ low t → id′ ≡ low id
-    → Put (compositeHead t′ id′ n) (Puts.part S (sectionAt declarations w + w .declarations)) z m
-    → S₂ ≡ splice (Puts.back S (sectionAt declarations w + w .declarations) z) (sectionAt declarations w + w .declarations + 3) (map low (part T from n))
-    → PutsOne declarations (n + 3) (constantComposite t id (part T from n)) w S (more declarations w (n + 3)) S₂
-declares-composite w S z S₂ T t id t′ id′ n m from few in-T room et ei put e =
-    let p = sectionAt declarations w + w .declarations in
-    let ps = part T from n in
-    let l : length ps ≡ n = length-take-le n (drop from T) (simp length-drop (omega arith)) in
-    let ml = map-length ps ∙ l in
-    let ws = compositeHead t′ id′ n ++ map low ps in
-    let lw : length ws ≡ n + 3 = simp length-append (omega (arith, ml)) in
-    let q : S₂ ≡ splice S p ws = e ∙ ap (λ (y : List ℕ). splice y (p + 3) (map low ps)) (Puts.lent S p (compositeHead t′ id′ n) z m put (omega arith))
-    ∙ splice-splice S p (compositeHead t′ id′ n) (p + 3) (map low ps) refl (omega (arith, ml)) in
-    let sp : map low (words (constantComposite t id ps)) ≡ ws = composite-low t id n ps few l ∙ sym (λ j. compositeHead (et j) (ei j) n ++ map low ps) in
-    puts declarations (n + 3) (constantComposite t id ps) ws sp w S (more declarations w (n + 3)) S₂
-    (subst (λ (y : List ℕ). Adds declarations (n + 3) ws w S (more declarations w (n + 3)) y) (sym q)
-    (subst (λ (k : ℕ). Adds declarations (n + 3) ws w S (more declarations w k) (splice S p ws)) lw (adds w S ws (n + 3) (omega (arith, lw)) declarations room)))
 
 -- ---- capabilities
 
@@ -258,17 +212,17 @@ module _ (w : Writer) (S : List ℕ) (c : ℕ) where
 
 -- ---- an instruction word by word
 
-pub pending : (w : Writer) (S : List ℕ) (k x p : ℕ) → p ≡ sectionAt declarations w + w .declarations + k → RoomFor (declaring (k + 1)) w S → Pending k x w S (splice S p (x ∷ []))
-pending w S k x p e room =
-    let q : sectionsOf w (splice S p (x ∷ [])) ≡ sectionsOf w S = λ i. record {
-      capabilities = part-left S p (x ∷ []) (omega arith) 0 (w .capabilities) (omega arith) i;
-      names = part-left S p (x ∷ []) (omega arith) (sectionAt names w) (w .names) (omega arith) i;
-      annotations = part-left S p (x ∷ []) (omega arith) (sectionAt annotations w) (w .annotations) (omega arith) i;
-      declarations = part-left S p (x ∷ []) (omega arith) (sectionAt declarations w) (w .declarations) (omega arith) i;
+pub pending : (w : Writer) (S : List ℕ) (k : ℕ) (ws : List ℕ) (p : ℕ) → p ≡ sectionAt declarations w + w .declarations + k → RoomFor (declaring (k + length ws)) w S → Pending k ws w S (splice S p ws)
+pending w S k ws p e room =
+    let q : sectionsOf w (splice S p ws) ≡ sectionsOf w S = λ i. record {
+      capabilities = part-left S p ws (omega arith) 0 (w .capabilities) (omega arith) i;
+      names = part-left S p ws (omega arith) (sectionAt names w) (w .names) (omega arith) i;
+      annotations = part-left S p ws (omega arith) (sectionAt annotations w) (w .annotations) (omega arith) i;
+      declarations = part-left S p ws (omega arith) (sectionAt declarations w) (w .declarations) (omega arith) i;
     } in
     record {
       still = λ T s h. record { last = h .last; tables = h .tables; small = h .small; sections = q ∙ h .sections };
-      more = part-more S (sectionAt declarations w + w .declarations) k p (x ∷ []) (omega arith) (omega arith);
+      more = part-more S (sectionAt declarations w + w .declarations) k p ws (omega arith) (omega arith);
     }
 
 pub committed : (w : Writer) (n : ℕ) → Committed n w (more declarations w n)

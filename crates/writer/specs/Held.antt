@@ -11,7 +11,8 @@ use Rattle.definition.specs.State.{State, Composite, composite, Valued}
 use Rattle.literals.specs.Forms.{formOf, bitsOf}
 use Rattle.lookup.specs.Packed.{packed, code, Small}
 use Rattle.writer.specs.declared.Writer.{Writer}
-use Rattle.writer.specs.Rows.{Row, row, rows, part, low}
+use Rattle.spirv.specs.Ids.{low}
+use Rattle.writer.specs.Rows.{Row, row, rows, part}
 use Rattle.writer.specs.Regions.{literalsAt, nullsAt, valuesAt, compositesAt, partsAt, sectionAt, names, annotations, declarations}
 use Rattle.writer.specs.Cost.{Cost}
 

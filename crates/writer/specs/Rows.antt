@@ -1,5 +1,5 @@
 -- Tables and sections in regions of two lists.
-use Prim.Native.Nat.{ℕ, zero, suc, _+_, _-_, _%_}
+use Prim.Native.Nat.{ℕ, zero, suc, _+_, _-_}
 use mathlib.Core.Bool.{Bool, true, false, _&&_}
 use mathlib.Core.List.{List, [], _∷_}
 use mathlib.Core.Option.{Option, some, none}
@@ -51,10 +51,6 @@ seekParts key ps q T p o (suc n) =
 abbrev pub soughtOf : Sought → Option ℕ
 soughtOf (Id i) = some i
 soughtOf Absent = none
-
--- a number as a word: ids are exact until the bound is known to be small
-abbrev pub low : ℕ → ℕ
-low x = x % 4294967296
 
 -- whether a number stands in a list
 unfoldable pub isListed : ℕ → List ℕ → Bool

@@ -5,7 +5,7 @@ use mathlib.Core.List.{List, [], _∷_, _++_, map}
 use mathlib.Core.Option.{Option}
 use native.Mathlib.Decide.{ℕ-discrete}
 use lib.Dec.{ltb}
-use lib.ListN.{getD}
+use lib.ListN.{length, getD}
 use Rattle.definition.specs.Choice.{pick}
 use Rattle.definition.specs.Literals.{Literal, sameLiteral}
 use Rattle.definition.specs.Instructions.{Instruction, words}
@@ -19,7 +19,8 @@ use Rattle.writer.specs.declared.Writer.{Writer}
 use Rattle.writer.specs.declared.Taken.{Taken}
 use Rattle.writer.specs.declared.Value.{Value}
 use Rattle.writer.specs.declared.Sought.{Sought}
-use Rattle.writer.specs.Rows.{part, low, soughtOf}
+use Rattle.spirv.specs.Ids.{low}
+use Rattle.writer.specs.Rows.{part, soughtOf}
 use Rattle.writer.specs.Regions.{valuesAt, partsAt, sectionAt, Section, declarations, addTo}
 use Rattle.writer.specs.Cost.{Cost, anId, aType, aLiteral, aNull, aValue, aComposite, capabilitiesOf, declaring, wordsIn}
 use Rattle.writer.specs.Held.{kindCode, SmallKind, Held, Grown}
@@ -154,10 +155,10 @@ pub record Added (c : Cost) (f : State → State) (w : Writer) (S : List ℕ) (v
   pub grown : Grown c w v
   pub held : (T : List ℕ) (s : State) → Held w T S s → Held v T S′ (f s)
 
--- a word behind the declarations in use, at place k of an instruction that is not whole yet: what is held stays held
-pub record Pending (k x : ℕ) (w : Writer) (S S′ : List ℕ) : Type 0 where
+-- words behind the declarations in use, from place k of an instruction that is not whole yet on: what is held stays held
+pub record Pending (k : ℕ) (xs : List ℕ) (w : Writer) (S S′ : List ℕ) : Type 0 where
   pub still : (T : List ℕ) (s : State) → Held w T S s → Held w T S′ s
-  pub more : part S′ (sectionAt declarations w + w .declarations) (k + 1) ≡ part S (sectionAt declarations w + w .declarations) k ++ x ∷ []
+  pub more : part S′ (sectionAt declarations w + w .declarations) (k + length xs) ≡ part S (sectionAt declarations w + w .declarations) k ++ xs
 
 -- the n words pending are an instruction
 pub record Committed (n : ℕ) (w v : Writer) : Type 0 where

@@ -1,21 +1,23 @@
 // The writer's tables and sections, in regions of two slices that the caller lends, and how much of each is in use.
 // One function for each thing that the rules do to the definition's State; whatever is above only composes them.
+pub mod sections;
+
+use crate::sections::constant_composite;
 use spirv::IdGenerator;
-use spirv::instructions::constant_composite_head;
-use spirv::layout::put_plain;
+use spirv::low_word;
 ghost use mathlib.Core.Path.{_≡_};
-ghost use mathlib.Core.List.{List, [], _∷_, map};
+ghost use mathlib.Core.List.{List, [], _∷_};
 ghost use Prim.Native.Nat.{ℕ, _+_, _*_, _≤_, _<_};
 ghost use lib.ListN.{length};
 ghost use Rattle.definition.specs.State.{empty};
-ghost use Rattle.definition.specs.Instructions.{words, plain, constantComposite, name, memberName};
+ghost use Rattle.definition.specs.Instructions.{constantComposite, name, memberName};
 ghost use Rattle.spirv.specs.Sections.{splice};
 ghost use Rattle.lookup.specs.Local.{asList};
-ghost use Rattle.writer.specs.Rows.{rows, seekIn, seekParts, soughtOf, part, low, isListed};
+ghost use Rattle.writer.specs.Rows.{rows, seekIn, seekParts, soughtOf, part, isListed};
 ghost use Rattle.writer.specs.Regions.{partsAt, names, annotations, declarations};
 ghost use Rattle.writer.specs.Cost.{nothing, aType, aLiteral, aNull, aValue, aComposite, staging, capabilitiesOf, naming, annotating, declaring};
 ghost use Rattle.writer.specs.Held.{Held, RoomIn, RoomFor};
-ghost use Rattle.writer.specs.Steps.{fresh, Took, FindsType, FindsLiteral, FindsNull, FindsComposite, EnteredType, EnteredLiteral, EnteredNull, EnteredComposite, EnteredValue, ValueAt, Adds, Puts, Listed, Pending, Committed};
+ghost use Rattle.writer.specs.Steps.{fresh, Took, FindsType, FindsLiteral, FindsNull, FindsComposite, EnteredType, EnteredLiteral, EnteredNull, EnteredComposite, EnteredValue, ValueAt, Puts, Listed, Pending, Committed};
 
 // Where a table starts, in multiples of `records`: a row is three numbers, and a record adds four types at most and one row
 // to each other table. Behind the tables stand the ids of composites' parts.
@@ -106,13 +108,6 @@ pub fn take_id(mut w: Writer) -> Taken
         id: next.id,
         writer: w,
     }
-}
-
-// A number as a word. Ids are exact in the tables, and words only where the bound is known to be small enough.
-pub fn low_word(x: u64) -> u32
-    ensures { λ r. ⌜ r ≡ low x ⌝ }
-{
-    (x % 4294967296) as u32
 }
 
 // ---- tables: searched in order of entry
@@ -319,27 +314,7 @@ pub fn enter_composite(tables: &mut [u64], mut w: Writer, key: u64, n: usize, id
     w
 }
 
-// ---- sections: an instruction goes behind those in its section
-
-pub fn declare(sections: &mut [u32], mut w: Writer, op: u32, operands: &[u32]) -> Writer
-    requires { ⌜ (op < 65536) × (length (now operands) ≤ 8) × RoomFor (declaring (length (now operands) + 1)) w (now sections) ⌝ }
-    ensures { λ r. ⌜ Adds declarations (length (now (operands .entry)) + 1) (words (plain op (now (operands .entry)))) w (now (sections .entry)) r (now (sections .exit)) ⌝ }
-{
-    let start = DECLARATIONS * w.bytes + w.declarations;
-    let n = put_plain(&mut sections[start..], op, operands);
-    w.declarations += n;
-    w
-}
-
-pub fn annotate(sections: &mut [u32], mut w: Writer, op: u32, operands: &[u32]) -> Writer
-    requires { ⌜ (op < 65536) × (length (now operands) ≤ 8) × RoomFor (annotating (length (now operands) + 1)) w (now sections) ⌝ }
-    ensures { λ r. ⌜ Adds annotations (length (now (operands .entry)) + 1) (words (plain op (now (operands .entry)))) w (now (sections .entry)) r (now (sections .exit)) ⌝ }
-{
-    let start = ANNOTATIONS * w.bytes + w.annotations;
-    let n = put_plain(&mut sections[start..], op, operands);
-    w.annotations += n;
-    w
-}
+// ---- names, and what is put from the tables; `sections` has the other instructions
 
 // Names an id.
 pub fn label(sections: &mut [u32], mut w: Writer, target: u64, bytes: &[u8]) -> Writer
@@ -378,23 +353,11 @@ fn put_word(sections: &mut [u32], p: usize, x: u32)
     sections[p] = x;
 }
 
-// Puts the n ids from a place of the tables on as words.
-fn put_ids(tables: &[u64], start: usize, sections: &mut [u32], p: usize, n: usize)
-    requires { ⌜ (start + n ≤ length (now tables)) × (p + n ≤ length (now sections)) ⌝ }
-    ensures { λ _. ⌜ now (sections .exit) ≡ splice (now (sections .entry)) p (map low (part (now (tables .entry)) start n)) ⌝ }
-{
-    let mut i = 0;
-    while i < n {
-        put_word(sections, p + i, low_word(tables[start + i]));
-        i += 1;
-    }
-}
-
 // Declares the composite of the n parts that stand behind those in use.
 pub fn declare_composite(
     tables: &[u64],
     sections: &mut [u32],
-    mut w: Writer,
+    w: Writer,
     ty: u64,
     id: u64,
     n: usize,
@@ -403,17 +366,13 @@ pub fn declare_composite(
     ensures { λ r. ⌜ Puts declarations (n + 3) (constantComposite ty id (part (now (tables .entry)) (partsAt w + w .parts) n)) w (now (sections .entry)) r (now (sections .exit)) ⌝ }
 {
     let start = PARTS * w.records + w.parts;
-    let p = DECLARATIONS * w.bytes + w.declarations;
-    constant_composite_head(&mut sections[p..], low_word(ty), low_word(id), n);
-    put_ids(tables, start, sections, p + 3, n);
-    w.declarations += n + 3;
-    w
+    constant_composite(sections, w, ty, id, &tables[start..start + n])
 }
 
 // A word of an instruction that is not whole yet, behind the declarations in use.
 pub fn put_pending(sections: &mut [u32], w: Writer, k: usize, x: u32)
     requires { ⌜ RoomFor (declaring (k + 1)) w (now sections) ⌝ }
-    ensures { λ _. ⌜ Pending k x w (now (sections .entry)) (now (sections .exit)) ⌝ }
+    ensures { λ _. ⌜ Pending k (x ∷ []) w (now (sections .entry)) (now (sections .exit)) ⌝ }
 {
     put_word(sections, DECLARATIONS * w.bytes + w.declarations + k, x);
 }

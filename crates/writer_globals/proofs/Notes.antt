@@ -12,7 +12,7 @@ use lib.ListN.{length, take, drop, length-take}
 use Rattle.definition.specs.Choice.{pick}
 use Rattle.definition.specs.Bytes.{u8At, nameAt, nameEnd}
 use Rattle.definition.specs.Numbers.{DecorationBinding, DecorationDescriptorSet}
-use Rattle.definition.specs.Instructions.{Instruction, words, plain, name, decorate}
+use Rattle.definition.specs.Instructions.{Instruction, name, decorate}
 use Rattle.definition.specs.Sheet.{TypeEntry}
 use Rattle.definition.specs.Shapes.{entry}
 use Rattle.definition.specs.State.{State, annotate}
@@ -26,11 +26,10 @@ use Rattle.entries.specs.declared.globals.ResourceBinding.{ResourceBinding}
 use Rattle.entries.specs.declared.globals.GlobalVariable.{GlobalVariable}
 use Rattle.writer.specs.declared.Writer.{Writer}
 use Rattle.writer.specs.declared.Taken.{Taken}
-use Rattle.writer.specs.Rows.{low}
 use Rattle.writer.specs.Regions.{names, annotations}
 use Rattle.writer.specs.Cost.{Cost, nothing, annotating, naming, _⊕_}
 use Rattle.writer.specs.Held.{Held}
-use Rattle.writer.specs.Steps.{Kept, GotBy, Spelt, Adds, Puts, Added}
+use Rattle.writer.specs.Steps.{Kept, GotBy, Puts, Added}
 use Rattle.writer_globals.specs.Globals.{bindingDecorated}
 use Rattle.writer_globals.proofs.Rooms.{grown-still, _▹_, tail-same, tail-still, tail-then}
 
@@ -44,8 +43,8 @@ pub kept-still : (c : Cost) {f : State → State} (w : Writer) (T S : List ℕ) 
 kept-still c w T S e = record { grown = grown-still c w; tail = tail-same w T; held = λ s h. subst (Held w T S) (sym (e s)) h }
 
 -- an annotation
-put-one : {n : ℕ} {ws : List ℕ} {w v : Writer} {S S₁ : List ℕ} → Adds annotations n ws w S v S₁ → (i : Instruction) → Spelt i ws → Added (annotating n) (annotate i) w S v S₁
-put-one p i e = record { grown = p .grown; held = p .held i e }
+put-one : {n : ℕ} {i : Instruction} {w v : Writer} {S S₁ : List ℕ} → Puts annotations n i w S v S₁ → Added (annotating n) (annotate i) w S v S₁
+put-one p = record { grown = p .grown; held = p .held }
 
 added-then : {c d : Cost} {f g : State → State} {w v u : Writer} {S S₁ S₂ : List ℕ} → Added c f w S v S₁ → Added d g v S₁ u S₂ → Added (c ⊕ d) (λ s. g (f s)) w S u S₂
 added-then {f = f} p q = record { grown = p .grown ▹ q .grown; held = λ T s h. q .held T (f s) (p .held T s h) }
@@ -54,18 +53,10 @@ added-then {f = f} p q = record { grown = p .grown ▹ q .grown; held = λ T s h
 added-as : {c : Cost} {f g : State → State} {w v : Writer} {S S₁ : List ℕ} → ((s : State) → f s ≡ g s) → Added c f w S v S₁ → Added c g w S v S₁
 added-as {v = v} {S₁ = S₁} e p = record { grown = p .grown; held = λ T s h. subst (Held v T S₁) (e s) (p .held T s h) }
 
-pub low-small : (n : ℕ) → n < 4294967296 → low n ≡ n
-low-small n h = omega arith
-
 -- ---- one decoration, if it is there
 
-pub if-there : (id d : ℕ) → d < 4294967296 → (b : Bool) → b ≡ true → {w v : Writer} {S S₁ : List ℕ} {x : ℕ} → x ≡ low id → Adds annotations 3 (words (plain 71 (x ∷ d ∷ []))) w S v S₁
-    → Added (annotating 3) (annotateIf b (decorate id d [])) w S v S₁
-unfolding words
-if-there id d hd b e ex p =
-    let a = sym ex in
-    let n = low-small d hd in
-    added-as (λ s. ap (λ (q : Bool). annotateIf q (decorate id d []) s) (sym e)) (put-one p (decorate id d []) (λ j. 196679 ∷ a j ∷ n j ∷ []))
+pub if-there : (id d : ℕ) (b : Bool) → b ≡ true → {w v : Writer} {S S₁ : List ℕ} → Puts annotations 3 (decorate id d []) w S v S₁ → Added (annotating 3) (annotateIf b (decorate id d [])) w S v S₁
+if-there id d b e p = added-as (λ s. ap (λ (q : Bool). annotateIf q (decorate id d []) s) (sym e)) (put-one p)
 
 -- ---- load and store
 
@@ -85,17 +76,10 @@ both-ways id x p q o e = added-as (λ s. ap (λ (o : Option ℕ). decorateAccess
 
 -- ---- the binding
 
-pub bound : (id : ℕ) (r : ResourceBinding) → r .group < 4294967296 → r .binding < 4294967296 → {x : ℕ} → x ≡ low id → {w v u : Writer} {S S₁ S₂ : List ℕ}
-    → Adds annotations 4 (words (plain 71 (x ∷ 34 ∷ r .group ∷ []))) w S v S₁ → Adds annotations 4 (words (plain 71 (x ∷ 33 ∷ r .binding ∷ []))) v S₁ u S₂
+pub bound : (id : ℕ) (r : ResourceBinding) {w v u : Writer} {S S₁ S₂ : List ℕ}
+    → Puts annotations 4 (decorate id DecorationDescriptorSet (r .group ∷ [])) w S v S₁ → Puts annotations 4 (decorate id DecorationBinding (r .binding ∷ [])) v S₁ u S₂
     → (b : Binding) → b ≡ Bound r → Added (annotating 8) (bindingDecorated b id) w S u S₂
-unfolding words
-bound id r hg hb ex p q b e =
-    let a = sym ex in
-    let m = low-small (r .group) hg in
-    let n = low-small (r .binding) hb in
-    added-as (λ s. ap (λ (b : Binding). bindingDecorated b id s) (sym e))
-    (added-then (put-one p (decorate id DecorationDescriptorSet (r .group ∷ [])) (λ j. 262215 ∷ a j ∷ 34 ∷ m j ∷ []))
-    (put-one q (decorate id DecorationBinding (r .binding ∷ [])) (λ j. 262215 ∷ a j ∷ 33 ∷ n j ∷ [])))
+bound id r p q b e = added-as (λ s. ap (λ (b : Binding). bindingDecorated b id s) (sym e)) (added-then (put-one p) (put-one q))
 
 -- ---- the name
 
@@ -146,10 +130,8 @@ module _ (space k : ℕ) (ek : k ≡ space) (o : Option ℕ) where
     no-base z s = λ j. blockBase (is-storage j) (z j) s
 
     pub on-base : {b : ℕ} → o ≡ some b → {w v : Writer} {T S T₁ S₁ S₂ : List ℕ} {f : Taken} → GotBy nothing (find (entry b)) w T S f T₁ S₁
-        → {x : ℕ} → x ≡ low (f .id) → Adds annotations 3 (words (plain 71 (x ∷ 2 ∷ []))) (f .writer) S₁ v S₂ → Kept (annotating 3) (blockBase (eqb space 4) o) w T S v T₁ S₂
-    unfolding words
-    on-base {b = b} z {v = v} {T₁ = T₁} {S₂ = S₂} {f = f} p ex q =
-        let a = sym ex in
+        → Puts annotations 3 (block (f .id)) (f .writer) S₁ v S₂ → Kept (annotating 3) (blockBase (eqb space 4) o) w T S v T₁ S₂
+    on-base {b = b} z {v = v} {T₁ = T₁} {S₂ = S₂} p q =
         record {
           grown = omega (arith, p .grown, q .grown);
           tail = tail-then (p .grown) (p .tail) (tail-still refl T₁ (q .grown));
@@ -157,5 +139,5 @@ module _ (space k : ℕ) (ek : k ≡ space) (o : Option ℕ) where
               let g = p .gives s h in
               let t = find (entry b) s in
               subst (Held v T₁ S₂) ((λ j. annotate (block (g .named j)) (t .state)) ∙ sym (λ j. blockBase (is-storage j) (z j) s))
-              (q .held (block (f .id)) (λ j. 196679 ∷ a j ∷ 2 ∷ []) T₁ (t .state) (g .held));
+              (q .held T₁ (t .state) (g .held));
         }

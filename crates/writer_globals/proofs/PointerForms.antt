@@ -11,7 +11,7 @@ use lib.Dec.{eqb}
 use lib.ListN.{length}
 use Rattle.definition.specs.Choice.{pick}
 use Rattle.definition.specs.Numbers.{DecorationOffset}
-use Rattle.definition.specs.Instructions.{words, plain, memberDecorate, typeStruct, typePointer}
+use Rattle.definition.specs.Instructions.{memberDecorate, typeStruct, typePointer}
 use Rattle.definition.specs.Sheet.{TypeEntry, Remap, Global}
 use Rattle.definition.specs.Shapes.{entry, shape, pointer, storageClass}
 use Rattle.definition.specs.State.{State, Got, takeId, annotate, declare}
@@ -27,52 +27,49 @@ use Rattle.type_facts.specs.declared.Number.{Number}
 use Rattle.type_facts.specs.Facets.{numberOf}
 use Rattle.writer.specs.declared.Writer.{Writer}
 use Rattle.writer.specs.declared.Taken.{Taken}
-use Rattle.writer.specs.Rows.{low}
 use Rattle.writer.specs.Regions.{annotations, declarations}
 use Rattle.writer.specs.Cost.{Cost, nothing, anId, annotating, declaring}
 use Rattle.writer.specs.Held.{Held, Grown, Room, RoomFor}
-use Rattle.writer.specs.Steps.{GotBy, Took, Adds, Added}
+use Rattle.writer.specs.Steps.{GotBy, Took, Puts, Added}
 use Rattle.finding.proofs.Prices.{AtMost}
+use Rattle.writer_members.specs.Members.{memberCost, memberDecorated}
 use Rattle.finding.proofs.Ways.{taken}
 use Rattle.writer_globals.specs.Costs.{wrapperCost}
 use Rattle.writer_globals.specs.declared.pointers.PointerForm.{PointerForm}
 use Rattle.writer_globals.specs.declared.pointers.PointerForm.the-variants.{Direct, Wrapped, Remapped}
 use Rattle.writer_globals.specs.Globals.{wrapIn, pointerBy, sizeFor, pointerFormIn}
 use Rattle.writer_globals.proofs.Rooms.{_▹_, grown-within, words-left, room-left, tail-still, tail-then}
-use Rattle.writer_globals.proofs.Notes.{low-small}
 
 -- ---- the wrapper: what is left of its room at each call, then the whole
 
-module _ {w : Writer} {T S : List ℕ} (room : Room wrapperCost w T S) {n : Writer} (g₀ : Grown anId w n) {a : Writer} (g₁ : Grown (annotating 3) n a) {b : Writer} (g₂ : Grown (annotating 5) a b) where
-  pub room-stride : {S′ : List ℕ} → length S′ ≡ length S → RoomFor (annotating 9) b S′
-  room-stride l = words-left (room .words) (g₀ ▹ g₁ ▹ g₂) l (omega arith)
+module _ {w : Writer} {T S : List ℕ} (room : Room wrapperCost w T S) {n : Writer} (g₀ : Grown anId w n) {a : Writer} (g₁ : Grown (annotating 3) n a) where
+  pub room-member : {S′ : List ℕ} → length S′ ≡ length S → RoomFor (memberCost false []) a S′
+  room-member l = words-left (room .words) (g₀ ▹ g₁) l (omega arith)
 
-  module _ {c : Writer} (g₃ : Grown (annotating 9) b c) where
+  module _ {c : Writer} (g₂ : Grown (memberCost false []) a c) where
     pub room-find : {S′ : List ℕ} → length S′ ≡ length S → Room nothing c T S′
-    room-find l = room-left room (g₀ ▹ g₁ ▹ g₂ ▹ g₃) refl l (omega arith)
+    room-find l = room-left room (g₀ ▹ g₁ ▹ g₂) refl l (omega arith)
 
-    module _ {f : Writer} (g₄ : Grown nothing c f) where
+    module _ {f : Writer} (g₃ : Grown nothing c f) where
       pub room-struct : {S′ : List ℕ} → length S′ ≡ length S → RoomFor (declaring 3) f S′
-      room-struct l = words-left (room .words) (g₀ ▹ g₁ ▹ g₂ ▹ g₃ ▹ g₄) l (omega arith)
+      room-struct l = words-left (room .words) (g₀ ▹ g₁ ▹ g₂ ▹ g₃) l (omega arith)
 
-      module _ {d : Writer} (g₅ : Grown (declaring 3) f d) where
+      module _ {d : Writer} (g₄ : Grown (declaring 3) f d) where
         pub room-id : d .idgen .last < 9223372036854775808
-        room-id = omega (arith, g₀ ▹ g₁ ▹ g₂ ▹ g₃ ▹ g₄ ▹ g₅, room .rows)
+        room-id = omega (arith, g₀ ▹ g₁ ▹ g₂ ▹ g₃ ▹ g₄, room .rows)
 
         pub room-pointer : {m : Writer} → Grown anId d m → {S′ : List ℕ} → length S′ ≡ length S → RoomFor (declaring 4) m S′
-        room-pointer g₆ l = words-left (room .words) (g₀ ▹ g₁ ▹ g₂ ▹ g₃ ▹ g₄ ▹ g₅ ▹ g₆) l (omega arith)
+        room-pointer g₅ l = words-left (room .words) (g₀ ▹ g₁ ▹ g₂ ▹ g₃ ▹ g₄ ▹ g₅) l (omega arith)
 
-pub wrapper : (t class : ℕ) → class < 4294967296 → (o : Option ℕ) {w : Writer} {T S : List ℕ} {n : Taken} → Took w n → {x : ℕ} → x ≡ low (n .id)
-    → {a : Writer} {S₁ : List ℕ} → Adds annotations 3 (words (plain 71 (x ∷ 2 ∷ []))) (n .writer) S a S₁
-    → {b : Writer} {S₂ : List ℕ} → Adds annotations 5 (words (plain 72 (x ∷ 0 ∷ 35 ∷ 0 ∷ []))) a S₁ b S₂
-    → {c : Writer} {S₃ : List ℕ} → Added (annotating 9) (strideMember o (n .id) 0) b S₂ c S₃
-    → {f : Taken} {T₄ S₄ : List ℕ} → GotBy nothing (find (entry t)) c T S₃ f T₄ S₄ → {y : ℕ} → y ≡ low (f .id)
-    → {d : Writer} {S₅ : List ℕ} → Adds declarations 3 (words (plain 30 (x ∷ y ∷ []))) (f .writer) S₄ d S₅
-    → {m : Taken} → Took d m → {z : ℕ} → z ≡ low (m .id)
-    → {u : Writer} {S₆ : List ℕ} → Adds declarations 4 (words (plain 32 (z ∷ class ∷ x ∷ []))) (m .writer) S₅ u S₆ → GotBy wrapperCost (wrapIn o t class) w T S (taken (m .id) u) T₄ S₆
-unfolding words
-wrapper t class hc o {w = w} {T = T} {S = S} {n = n} p ex q₁ q₂ q₃ {f = f} {T₄ = T₄} q₄ ey {S₅ = S₅} q₅ {m = m} p₂ ez {u = u} {S₆ = S₆} q₆ =
-    let before = p .grown ▹ q₁ .grown ▹ q₂ .grown ▹ q₃ .grown in
+pub wrapper : (t class : ℕ) (o : Option ℕ) {w : Writer} {T S : List ℕ} {n : Taken} → Took w n
+    → {a : Writer} {S₁ : List ℕ} → Puts annotations 3 (block (n .id)) (n .writer) S a S₁
+    → {c : Writer} {S₃ : List ℕ} → Added (memberCost false []) (memberDecorated (n .id) 0 0 false [] o) a S₁ c S₃
+    → {f : Taken} {T₄ S₄ : List ℕ} → GotBy nothing (find (entry t)) c T S₃ f T₄ S₄
+    → {d : Writer} {S₅ : List ℕ} → Puts declarations 3 (typeStruct (n .id) (f .id ∷ [])) (f .writer) S₄ d S₅
+    → {m : Taken} → Took d m
+    → {u : Writer} {S₆ : List ℕ} → Puts declarations 4 (typePointer (m .id) class (n .id)) (m .writer) S₅ u S₆ → GotBy wrapperCost (wrapIn o t class) w T S (taken (m .id) u) T₄ S₆
+wrapper t class o {w = w} {T = T} {S = S} {n = n} p q₁ q₃ {f = f} {T₄ = T₄} q₄ {S₅ = S₅} q₅ {m = m} p₂ {u = u} {S₆ = S₆} q₆ =
+    let before = p .grown ▹ q₁ .grown ▹ q₃ .grown in
     let after = q₅ .grown ▹ p₂ .grown ▹ q₆ .grown in
     record {
       grown = omega (arith, before, q₄ .grown, after);
@@ -80,20 +77,15 @@ wrapper t class hc o {w = w} {T = T} {S = S} {n = n} p ex q₁ q₂ q₃ {f = f}
       gives = λ s h.
           let i = n .id in
           let ei : i ≡ suc (s .last) = p .named ∙ ap suc (h .last) in
-          let e₁ = sym ex in
-          let e₂ = sym ey in
-          let e₃ = sym ez in
-          let ec = low-small class hc in
           let A : ℕ → State = λ i. strideMember o i 0 (annotate (memberDecorate i 0 DecorationOffset (0 ∷ [])) (annotate (block i) (takeId s))) in
           let F : ℕ → Got = λ i. find (entry t) (A i) in
-          let h₂ = q₁ .held (block i) (λ j. 196679 ∷ e₁ j ∷ 2 ∷ []) T (takeId s) (p .held T S s h) in
-          let h₃ = q₂ .held (memberDecorate i 0 DecorationOffset (0 ∷ [])) (λ j. 327752 ∷ e₁ j ∷ 0 ∷ 35 ∷ 0 ∷ []) T (annotate (block i) (takeId s)) h₂ in
-          let h₄ = q₃ .held T (annotate (memberDecorate i 0 DecorationOffset (0 ∷ [])) (annotate (block i) (takeId s))) h₃ in
+          let h₂ = q₁ .held T (takeId s) (p .held T S s h) in
+          let h₄ = q₃ .held T (annotate (block i) (takeId s)) h₂ in
           let g = q₄ .gives (A i) h₄ in
           let v = declare (typeStruct i (f .id ∷ [])) (F i .state) in
-          let h₅ = q₅ .held (typeStruct i (f .id ∷ [])) (λ j. 196638 ∷ e₁ j ∷ e₂ j ∷ []) T₄ (F i .state) (g .held) in
+          let h₅ = q₅ .held T₄ (F i .state) (g .held) in
           let em : m .id ≡ suc (F i .state .last) = p₂ .named ∙ ap suc (h₅ .last) in
-          let h₆ = q₆ .held (typePointer (m .id) class i) (λ j. 262176 ∷ e₃ j ∷ ec j ∷ e₁ j ∷ []) T₄ (takeId v) (p₂ .held T₄ S₅ v h₅) in
+          let h₆ = q₆ .held T₄ (takeId v) (p₂ .held T₄ S₅ v h₅) in
           record {
             named = em ∙ ap (λ (k : ℕ). suc (F k .state .last)) ei;
             held = subst (Held u T₄ S₆)

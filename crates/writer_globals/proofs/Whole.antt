@@ -22,13 +22,15 @@ use Rattle.entries.specs.declared.globals.Binding.the-variants.{Unbound, Bound}
 use Rattle.entries.specs.declared.globals.GlobalVariable.{GlobalVariable}
 use Rattle.writer.specs.declared.Writer.{Writer}
 use Rattle.writer.specs.declared.Taken.{Taken}
+use Rattle.spirv.specs.Ids.{initOf}
+use Rattle.writer.specs.Regions.{declarations}
 use Rattle.writer.specs.Cost.{anId, naming, annotating, declaring, recordCost}
 use Rattle.writer.specs.Held.{Held, Room, RoomFor, Grown}
-use Rattle.writer.specs.Steps.{Kept, GotBy, Took, Added}
+use Rattle.writer.specs.Steps.{Kept, GotBy, Took, Puts, Added}
 use Rattle.finding.specs.Costs.{nullCost}
 use Rattle.finding.proofs.Prices.{AtMost}
 use Rattle.writer_globals.specs.Costs.{pointerCost, globalCost}
-use Rattle.writer_globals.specs.Globals.{pointerBy, pointerFormIn, bindingDecorated, initIn, Initialised, GlobalKept}
+use Rattle.writer_globals.specs.Globals.{pointerBy, pointerFormIn, bindingDecorated, Initialised, GlobalKept}
 use Rattle.writer_globals.specs.Records.{globalIn, Tested}
 use Rattle.writer_globals.specs.declared.pointers.PointerForm.{PointerForm}
 use Rattle.writer_globals.specs.declared.Inited.{Inited}
@@ -109,7 +111,7 @@ pub declared : (flags : ℕ) (ts : List TypeEntry) (rs : List Remap) (b : List �
     → {null : Bool} → null ≡ (eqb (spaceNumber (g .space)) 1 || (eqb (spaceNumber (g .space)) 2 && eqb (flags / 2 % 2) 1))
     → {z : Inited} {T₆ S₆ : List ℕ} → Initialised (initFor (constantOf (g .init)) null (g .ty)) v₅ T₅ S₅ z T₆ S₆
     → {class : ℕ} → class ≡ storageClass (spaceNumber (g .space))
-    → {v₇ : Writer} {S₇ : List ℕ} → Added (declaring 5) (declare (variable (p .id) (t .id) class (initIn (z .there) (z .init)))) (z .writer) S₆ v₇ S₇
+    → {v₇ : Writer} {S₇ : List ℕ} → Puts declarations 5 (variable (p .id) (t .id) class (initOf (z .init))) (z .writer) S₆ v₇ S₇
     → GlobalKept (globalCost (nameEnd b 0)) flags ts rs (globalOf b g) w T S v₇ T₆ S₇
 declared flags ts rs b g {w = w} {T = T} {S = S} {t = t} p₀ q₁ {a = a} ea q₂ q₃ y ey {p = p} q₄ {base = base} eb q₅ {null = null} en {z = z} {T₆ = T₆} {S₆ = S₆} q₆ {class = class} ec {v₇ = v₇} {S₇ = S₇} q₇ =
     let before = p₀ .grown ▹ q₁ .grown ▹ q₂ .grown ▹ q₃ .grown in

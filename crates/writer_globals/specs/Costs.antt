@@ -1,11 +1,14 @@
 -- What a global costs.
 use Prim.Native.Nat.{ℕ, _+_}
+use mathlib.Core.Bool.{false}
+use mathlib.Core.List.{[]}
 use Rattle.writer.specs.Cost.{Cost, anId, naming, annotating, declaring, _⊕_}
+use Rattle.writer_members.specs.Members.{memberCost}
 use Rattle.finding.specs.Costs.{nullCost}
 
--- a wrapper's Block, its member's Offset, ColMajor and MatrixStride, its own instruction, and its pointer's
+-- a wrapper's Block, its member, its own instruction, and its pointer's
 abbrev pub wrapperCost : Cost
-wrapperCost = anId ⊕ annotating 3 ⊕ annotating 5 ⊕ annotating 9 ⊕ declaring 3 ⊕ anId ⊕ declaring 4
+wrapperCost = anId ⊕ annotating 3 ⊕ memberCost false [] ⊕ declaring 3 ⊕ anId ⊕ declaring 4
 
 -- a pointer, whatever its form: a wrapper has the most annotations, a remapped array the most of all else
 abbrev pub pointerCost : Cost

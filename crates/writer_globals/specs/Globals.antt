@@ -1,7 +1,6 @@
 -- A global's declaration by what was read for it: the definition's rules, with their reading of the types done.
 use Prim.Native.Nat.{ℕ, suc}
 use mathlib.Core.Path.{_≡_}
-use mathlib.Core.Bool.{Bool}
 use mathlib.Core.List.{List, [], _∷_}
 use mathlib.Core.Option.{Option, some, none}
 use Rattle.definition.specs.Choice.{pick}
@@ -18,6 +17,7 @@ use Rattle.kinds.specs.Numbers.{spaceNumber, spaceAccess}
 use Rattle.entries.specs.declared.globals.Binding.{Binding}
 use Rattle.entries.specs.declared.globals.Binding.the-variants.{Unbound, Bound}
 use Rattle.entries.specs.declared.globals.GlobalVariable.{GlobalVariable}
+use Rattle.spirv.specs.Ids.{initOf}
 use Rattle.type_facts.specs.Facets.{numberOf}
 use Rattle.writer.specs.declared.Writer.{Writer}
 use Rattle.writer.specs.Cost.{Cost}
@@ -64,13 +64,9 @@ bindingDecorated (Bound r) id s = annotate (decorate id DecorationBinding (r .bi
 
 -- ---- the init
 
--- an id that may be missing
-abbrev pub initIn : Bool → ℕ → Option ℕ
-initIn there id = pick there (some id) none
-
 -- the init, and the state in which it is declared, are held
 pub record InitGiven (g : GotInit) (r : Inited) (T S : List ℕ) : Type 0 where
-  pub named : initIn (r .there) (r .init) ≡ g .init
+  pub named : initOf (r .init) ≡ g .init
   pub held : Held (r .writer) T S (g .state)
 
 -- an init is come by

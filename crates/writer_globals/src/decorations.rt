@@ -11,11 +11,10 @@ use spirv::instructions::DECORATION_BLOCK;
 use spirv::instructions::DECORATION_DESCRIPTOR_SET;
 use spirv::instructions::DECORATION_NON_READABLE;
 use spirv::instructions::DECORATION_NON_WRITABLE;
-use spirv::instructions::OP_DECORATE;
 use type_facts::Access;
 use type_facts::Base;
 use writer::Writer;
-use writer::low_word;
+use writer::sections;
 ghost use mathlib.Core.Path.{_≡_};
 ghost use mathlib.Core.List.{List, []};
 ghost use Prim.Native.Nat.{ℕ, _+_, _≤_};
@@ -40,7 +39,7 @@ fn decorate_if(sections: &mut [u32], w: Writer, there: bool, id: u64, decoration
     ensures { λ r. ⌜ Added (annotating 3) (annotateIf there (decorate id decoration [])) w (now (sections .entry)) r (now (sections .exit)) ⌝ }
 {
     if there {
-        return writer::annotate(sections, w, OP_DECORATE, &[low_word(id), decoration]);
+        return sections::decorate(sections, w, id, decoration, &[]);
     }
     w
 }
@@ -78,19 +77,8 @@ pub fn decorate_binding(sections: &mut [u32], w: Writer, id: u64, binding: Bindi
     match binding {
         Binding::Unbound => w,
         Binding::Bound(r) => {
-            let t = low_word(id);
-            let a = writer::annotate(
-                sections,
-                w,
-                OP_DECORATE,
-                &[t, DECORATION_DESCRIPTOR_SET, r.group],
-            );
-            writer::annotate(
-                sections,
-                a,
-                OP_DECORATE,
-                &[t, DECORATION_BINDING, r.binding],
-            )
+            let a = sections::decorate(sections, w, id, DECORATION_DESCRIPTOR_SET, &[r.group]);
+            sections::decorate(sections, a, id, DECORATION_BINDING, &[r.binding])
         }
     }
 }
@@ -128,12 +116,7 @@ pub fn block_base(
         Base::Nothing => w,
         Base::Of(b) => {
             let f = finding::get_type_id(tables, sections, w, LookupType::Handle(b));
-            writer::annotate(
-                sections,
-                f.writer,
-                OP_DECORATE,
-                &[low_word(f.id), DECORATION_BLOCK],
-            )
+            sections::decorate(sections, f.writer, f.id, DECORATION_BLOCK, &[])
         }
     }
 }

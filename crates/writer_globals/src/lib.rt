@@ -17,9 +17,9 @@ use lookup::LookupType;
 use pointers::pointer_form_of;
 use pointers::write_pointer;
 use spirv::helpers::map_storage_class;
-use spirv::instructions::OP_VARIABLE;
+use spirv::instructions::Initializer;
 use writer::Writer;
-use writer::low_word;
+use writer::sections;
 ghost use mathlib.Core.Path.{_≡_};
 ghost use mathlib.Core.Bool.{_&&_, _||_};
 ghost use mathlib.Core.List.{map};
@@ -27,19 +27,16 @@ ghost use Prim.Native.Nat.{_+_, _≤_};
 ghost use lib.Dec.{eqb};
 ghost use lib.ListN.{length, take};
 ghost use Rattle.definition.specs.Bytes.{nameEnd};
-ghost use Rattle.definition.specs.Instructions.{variable};
 ghost use Rattle.definition.specs.Sheet.{recordAt, privateSpace, workGroupSpace};
-ghost use Rattle.definition.specs.State.{declare};
 ghost use Rattle.definition.specs.Rules.{initFor};
 ghost use Rattle.kinds.specs.Numbers.{spaceNumber};
 ghost use Rattle.records.specs.Places.{remapFrom, typesFrom};
 ghost use Rattle.entries.specs.Globals.{globalOf, constantOf};
-ghost use Rattle.writer.specs.Cost.{declaring, recordCost};
-ghost use Rattle.writer.specs.Held.{RoomFor, Room};
-ghost use Rattle.writer.specs.Steps.{Added};
+ghost use Rattle.writer.specs.Cost.{recordCost};
+ghost use Rattle.writer.specs.Held.{Room};
 ghost use Rattle.finding.specs.Costs.{nullCost};
 ghost use Rattle.writer_globals.specs.Costs.{globalCost};
-ghost use Rattle.writer_globals.specs.Globals.{initIn, Initialised, GlobalKept};
+ghost use Rattle.writer_globals.specs.Globals.{Initialised, GlobalKept};
 ghost use Rattle.writer_globals.specs.Records.{globalIn, Tested};
 
 // Spaces, as document 01 numbers them.
@@ -57,8 +54,7 @@ const HANDLE: u8 = 5;
 
 // The id of a global's init, if it has one.
 pub struct Inited {
-    pub there: bool,
-    pub init: u64,
+    pub init: Initializer,
     pub writer: Writer,
 }
 
@@ -90,16 +86,14 @@ fn write_init(
         Init::Constant(c) => {
             let x = writer::value_at(tables, w, c as usize);
             Inited {
-                there: true,
-                init: x.id,
+                init: Initializer::Id(x.id),
                 writer: w,
             }
         }
         Init::Missing => {
             if !null {
                 return Inited {
-                    there: false,
-                    init: 0,
+                    init: Initializer::Nothing,
                     writer: w,
                 };
             }
@@ -107,8 +101,7 @@ fn write_init(
             let z = finding::write_constant_null(tables, sections, f.writer, f.id);
             let v = z.writer;
             Inited {
-                there: true,
-                init: z.id,
+                init: Initializer::Id(z.id),
                 writer: v,
             }
         }
@@ -116,26 +109,6 @@ fn write_init(
 }
 
 // ---- the variable
-
-fn put_variable(
-    sections: &mut [u32],
-    w: Writer,
-    ty: u64,
-    id: u64,
-    class: u32,
-    there: bool,
-    init: u64,
-) -> Writer
-    requires { ⌜ RoomFor (declaring 5) w (now sections) ⌝ }
-    ensures { λ r. ⌜ Added (declaring 5) (declare (variable ty id class (initIn there init))) w (now (sections .entry)) r (now (sections .exit)) ⌝ }
-{
-    let x = low_word(ty);
-    let y = low_word(id);
-    if there {
-        return writer::declare(sections, w, OP_VARIABLE, &[x, y, class, low_word(init)]);
-    }
-    writer::declare(sections, w, OP_VARIABLE, &[x, y, class])
-}
 
 // The global g of body b, given the first n types and the first m remaps of the sheet s.
 fn write_global_variable(
@@ -171,7 +144,8 @@ fn write_global_variable(
     let p = write_pointer(tables, sections, e, form, g);
     let f = block_base(tables, sections, p.writer, space, base);
     let z = write_init(tables, sections, f, init, null, ty);
-    put_variable(sections, z.writer, p.id, id, class, z.there, z.init)
+    let initializer = z.init;
+    sections::variable(sections, z.writer, p.id, id, class, initializer)
 }
 
 // The global of the record at the front of `rest`: what test 10 lets through is declared as it was read.

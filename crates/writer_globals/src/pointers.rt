@@ -5,17 +5,12 @@ use lookup::LocalType;
 use lookup::LookupType;
 use spirv::helpers::map_storage_class;
 use spirv::instructions::DECORATION_BLOCK;
-use spirv::instructions::DECORATION_OFFSET;
-use spirv::instructions::OP_DECORATE;
-use spirv::instructions::OP_MEMBER_DECORATE;
-use spirv::instructions::OP_TYPE_POINTER;
-use spirv::instructions::OP_TYPE_STRUCT;
 use type_facts::Base;
 use type_facts::Number;
 use writer::Taken;
 use writer::Writer;
-use writer::low_word;
-use writer_types::structs::stride_member;
+use writer::sections;
+use writer_members::decorate_struct_member;
 ghost use mathlib.Core.Path.{_≡_};
 ghost use mathlib.Core.List.{List, map};
 ghost use Prim.Native.Nat.{ℕ, _≤_};
@@ -53,21 +48,13 @@ fn write_wrapper(
 {
     let n = writer::take_id(w);
     let id = n.id;
-    let x = low_word(id);
-    let a = writer::annotate(sections, n.writer, OP_DECORATE, &[x, DECORATION_BLOCK]);
-    let b = writer::annotate(
-        sections,
-        a,
-        OP_MEMBER_DECORATE,
-        &[x, 0, DECORATION_OFFSET, 0],
-    );
-    let c = stride_member(sections, b, id, 0, stride);
+    let a = sections::decorate(sections, n.writer, id, DECORATION_BLOCK, &[]);
+    let c = decorate_struct_member(sections, a, id, 0, 0, false, &[], stride);
     let f = finding::get_type_id(tables, sections, c, LookupType::Handle(ty));
-    let d = writer::declare(sections, f.writer, OP_TYPE_STRUCT, &[x, low_word(f.id)]);
+    let d = sections::type_struct(sections, f.writer, id, &[f.id]);
     let p = writer::take_id(d);
     let pointer = p.id;
-    let y = low_word(pointer);
-    let u = writer::declare(sections, p.writer, OP_TYPE_POINTER, &[y, class, x]);
+    let u = sections::type_pointer(sections, p.writer, pointer, class, id);
     Taken {
         id: pointer,
         writer: u,

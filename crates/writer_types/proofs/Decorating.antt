@@ -3,70 +3,64 @@
 -- what was written.
 use Prim.Native.Nat.{ℕ, _+_, _*_, _-_, _≤_, _<_}
 use mathlib.Core.Path.{_≡_, refl, sym, ap, _∙_, subst}
-use mathlib.Core.Bool.{Bool, true, false, not, _||_}
+use mathlib.Core.Bool.{Bool, true, false, not, _&&_, _||_}
 use mathlib.Core.List.{List, [], _∷_}
+use mathlib.Core.Option.{some, none}
 use native.Mathlib.Numerals.{add-one}
 use native.Mathlib.Omega.{arith}
-use lib.ListN.{length}
-use Rattle.definition.specs.Bytes.{u16At, u32At, nameAt, nameEnd}
-use Rattle.definition.specs.Numbers.{DecorationOffset, DecorationColMajor, DecorationMatrixStride}
-use Rattle.definition.specs.Instructions.{words, plain, memberDecorate, memberName}
+use lib.ListN.{length, getD}
+use Rattle.definition.specs.Bytes.{Name, u16At, u32At, nameAt, nameEnd}
+use Rattle.definition.specs.Choice.{orElse}
+use Rattle.definition.specs.Numbers.{DecorationOffset}
+use Rattle.definition.specs.Instructions.{Instruction, memberDecorate, memberName}
 use Rattle.definition.specs.Sheet.{Member, TypeEntry, membersAt}
 use Rattle.definition.specs.State.{State, annotate}
+use Rattle.definition.specs.Tests.{present}
 use Rattle.definition.specs.Rules.{strideMember, labelIf, decorateMember, matrixStride, elementOf, innerAt, isDynamic, anyDynamic, annotateIf, block, declareStruct}
 use Rattle.type_facts.specs.declared.Number.{Number}
-use Rattle.type_facts.specs.declared.Number.the-variants.{Of, Nothing}
 use Rattle.type_facts.specs.Facets.{numberOf}
 use Rattle.writer.specs.declared.Writer.{Writer}
-use Rattle.writer.specs.Rows.{low}
 use Rattle.writer.specs.Regions.{annotations}
 use Rattle.writer.specs.Cost.{naming, annotating, _⊕_}
-use Rattle.writer.specs.Held.{Held, Grown}
-use Rattle.writer.specs.Steps.{Kept, Adds, Added}
+use Rattle.writer.specs.Held.{Held, RoomFor, Grown}
+use Rattle.writer.specs.Steps.{Kept, Puts, Added}
+use Rattle.writer_members.specs.Members.{nameCost, memberDecorated}
+use Rattle.writer_members.specs.Members as Shared
 use Rattle.writer_types.specs.Members.{memberAt, decorated, StructPut}
 use Rattle.writer_types.specs.Costs.{nameLength, memberCost, weight, membersCost, structCost}
 use Rattle.writer_types.proofs.Walking.{members-length, split, none-left, weight-split}
-use Rattle.writer_types.proofs.Named.{still}
+use Rattle.writer_types.proofs.Named.{still, name-short}
 use Rattle.writer_types.proofs.Passes.{as-defined}
 
 -- ---- one member
 
-module _ (id i : ℕ) (hi : i < 4294967296) (t : ℕ) (e : t ≡ low id) where
-  pub strided : (x : Number) (n : ℕ) → x ≡ Of n → n < 4294967296 → (w : Writer) (S : List ℕ) (a : Writer) (S₁ : List ℕ) → Adds annotations 4 (words (plain 72 (t ∷ i ∷ 5 ∷ []))) w S a S₁
-      → (v : Writer) (S₂ : List ℕ) → Adds annotations 5 (words (plain 72 (t ∷ i ∷ 7 ∷ n ∷ []))) a S₁ v S₂ → Added (annotating 9) (strideMember (numberOf x) id i) w S v S₂
-  unfolding words
-  strided x n ex hn w S a S₁ p v S₂ q =
-      rw ex (record {
-        grown = omega (arith, p .grown, q .grown);
-        held = λ T s h.
-            let d = sym e in
-            let ei : low i ≡ i = omega arith in
-            let es : low n ≡ n = omega arith in
-            q .held (memberDecorate id i DecorationMatrixStride (n ∷ [])) (λ j. 327752 ∷ d j ∷ ei j ∷ 7 ∷ es j ∷ []) T _
-            (p .held (memberDecorate id i DecorationColMajor []) (λ j. 262216 ∷ d j ∷ ei j ∷ 5 ∷ []) T s h);
-      })
+cost-few : (r : Bool) (bs : List ℕ) → nameCost r bs ≤ length bs + 4
+cost-few true bs = omega arith
+cost-few false bs = omega arith
 
-  pub member : (debug : Bool) (ts : List TypeEntry) (b : List ℕ) (p offset : ℕ) → offset ≡ u32At b (p + 2) → offset < 4294967296
-      → (w : Writer) (S : List ℕ) (a : Writer) (S₁ : List ℕ) → Adds annotations 5 (words (plain 72 (t ∷ i ∷ 35 ∷ offset ∷ []))) w S a S₁
-      → (v : Writer) (S₂ : List ℕ) → Added (naming (nameLength (nameAt b (p + 6)) + 4)) (labelIf debug (memberName id i) (nameAt b (p + 6))) a S₁ v S₂
-      → (ty : ℕ) → ty ≡ u16At b p → (x : Number) → numberOf x ≡ matrixStride (elementOf ts (innerAt ts ty))
-      → (u : Writer) (S₃ : List ℕ) → Added (annotating 9) (strideMember (numberOf x) id i) v S₂ u S₃
-      → Added (memberCost (nameAt b (p + 6))) (decorateMember debug ts id i (memberAt b p)) w S u S₃
-  unfolding words
-  member debug ts b p offset eo ho w S a S₁ m v S₂ q ty et x ex u S₃ r =
+-- written or not, as the definition's labelIf has it
+same-name : (d : Bool) (nm : Name) (write : List ℕ → Instruction) (s : State) → labelIf (d && present nm) write (some (orElse [] nm)) s ≡ labelIf d write nm s
+same-name false nm write s = refl
+same-name true none write s = refl
+same-name true (some bs) write s = refl
+
+module _ (b : List ℕ) (p : ℕ) (r : Bool) {bs : List ℕ} (eb : bs ≡ orElse [] (nameAt b (p + 6))) {w : Writer} {S : List ℕ} where
+  pub member-room : getD b (p + 6) 0 < 256 → RoomFor (memberCost (nameAt b (p + 6))) w S → (length bs < 256) × RoomFor (Shared.memberCost r bs) w S
+  member-room h room = let l = ap length eb in (omega (arith, l, name-short b (p + 6) h), omega (arith, l, cost-few r bs, room))
+
+  pub member : (debug : Bool) (ts : List TypeEntry) (id i : ℕ) {offset : ℕ} → offset ≡ u32At b (p + 2) → r ≡ (debug && present (nameAt b (p + 6)))
+      → {ty : ℕ} → ty ≡ u16At b p → (x : Number) → numberOf x ≡ matrixStride (elementOf ts (innerAt ts ty))
+      → {v : Writer} {S₁ : List ℕ} → Added (Shared.memberCost r bs) (memberDecorated id i offset r bs (numberOf x)) w S v S₁
+      → Added (memberCost (nameAt b (p + 6))) (decorateMember debug ts id i (memberAt b p)) w S v S₁
+  member debug ts id i eo er et x ex {v = v} {S₁ = S₁} m =
       record {
-        grown = omega (arith, m .grown, q .grown, r .grown);
+        grown = omega (arith, m .grown, cost-few r bs, ap length eb);
         held = λ T s h.
-            let d = sym e in
-            let ei : low i ≡ i = omega arith in
-            let en : low offset ≡ offset = omega arith in
             let o = ex ∙ ap (λ (k : ℕ). matrixStride (elementOf ts (innerAt ts k))) et in
-            subst (Held u T S₃) (λ j. strideMember (o j) id i (labelIf debug (memberName id i) (nameAt b (p + 6)) (annotate (memberDecorate id i DecorationOffset (eo j ∷ [])) s)))
-            (r .held T _ (q .held T _ (m .held (memberDecorate id i DecorationOffset (offset ∷ [])) (λ j. 327752 ∷ d j ∷ ei j ∷ 35 ∷ en j ∷ []) T s h)));
+            subst (Held v T S₁) ((λ j. memberDecorated id i (eo j) (er j) (eb j) (o j) s)
+            ∙ ap (strideMember (matrixStride (elementOf ts (innerAt ts (u16At b p)))) id i) (same-name debug (nameAt b (p + 6)) (memberName id i) (annotate (memberDecorate id i DecorationOffset (u32At b (p + 2) ∷ [])) s)))
+            (m .held T s h);
       }
-
-pub unstrided : (id i : ℕ) (x : Number) → x ≡ Nothing → (w : Writer) (S : List ℕ) → Added (annotating 9) (strideMember (numberOf x) id i) w S w S
-unstrided id i x e w S = rw e (still (annotating 9) w S)
 
 -- ---- Block
 
@@ -74,11 +68,9 @@ pub unblocked : (d : Bool) (id : ℕ) → not d ≡ true → (w : Writer) (S : L
 unblocked true id e w S = let z : _≡_ {A = ℕ} 0 1 = cc in absurd (omega arith)
 unblocked false id e w S = still (annotating 3) w S
 
-pub blocked : (d : Bool) (id : ℕ) → not d ≡ false → (t : ℕ) → t ≡ low id → (w : Writer) (S : List ℕ) (v : Writer) (S′ : List ℕ)
-    → Adds annotations 3 (words (plain 71 (t ∷ 2 ∷ []))) w S v S′ → Added (annotating 3) (annotateIf d (block id)) w S v S′
-unfolding words
-blocked false id f t e w S v S′ p = let z : _≡_ {A = ℕ} 0 1 = cc in absurd (omega arith)
-blocked true id f t e w S v S′ p = let d = sym e in record { grown = p .grown; held = λ T s h. p .held (block id) (λ j. 196679 ∷ d j ∷ 2 ∷ []) T s h }
+pub blocked : (d : Bool) (id : ℕ) → not d ≡ false → {w v : Writer} {S S′ : List ℕ} → Puts annotations 3 (block id) w S v S′ → Added (annotating 3) (annotateIf d (block id)) w S v S′
+blocked false id f p = let z : _≡_ {A = ℕ} 0 1 = cc in absurd (omega arith)
+blocked true id f p = record { grown = p .grown; held = p .held }
 
 -- ---- the members, one after the other
 

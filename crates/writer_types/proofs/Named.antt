@@ -40,7 +40,7 @@ module _ (c : ℕ) (write : List ℕ → Instruction) (w : Writer) (S : List ℕ
 -- ---- the room for it
 
 -- a name's length is a byte
-name-short : (b : List ℕ) (i : ℕ) → getD b i 0 < 256 → nameLength (nameAt b i) < 256
+pub name-short : (b : List ℕ) (i : ℕ) → getD b i 0 < 256 → nameLength (nameAt b i) < 256
 unfolding nameAt
 name-short b i h = go (eqb (u8At b i) 255)
   where

@@ -13,7 +13,9 @@ use Rattle.definition.specs.Sheet.{Member, membersAt}
 use Rattle.definition.specs.Shapes.{entry}
 use Rattle.definition.specs.State.{State, idOf}
 use Rattle.writer.specs.declared.Writer.{Writer}
-use Rattle.writer.specs.Rows.{low, part}
+use Rattle.spirv.specs.Heads.{structHead}
+use Rattle.spirv.specs.Ids.{low}
+use Rattle.writer.specs.Rows.{part}
 use Rattle.writer.specs.Regions.{sectionAt, declarations}
 use Rattle.writer.specs.Held.{Held}
 use Rattle.writer.specs.Steps.{Pending, Committed}
@@ -33,9 +35,9 @@ pub record Putting (b T : List ℕ) (id first n : ℕ) (w : Writer) (S S′ : Li
 
 module _ (b T : List ℕ) (id first n : ℕ) (hn : n < 256) (w : Writer) (S : List ℕ) where
   -- the head stands before the loop
-  pub headed : (S₁ : List ℕ) → Pending 0 (65536 * (n + 2) + 30) w S S₁ → (t : ℕ) → t ≡ low id → (S₂ : List ℕ) → Pending 1 t w S₁ S₂ → Putting b T id first n w S₂ S₂ first n 2
+  pub headed : (S₁ : List ℕ) → Pending 0 (structHead (low id) n) w S S₁ → Putting b T id first n w S₁ S₁ first n 2
   unfolding words
-  headed S₁ p t e S₂ q =
+  headed S₁ p =
       record {
         place = omega arith;
         count = omega arith;
@@ -46,13 +48,12 @@ module _ (b T : List ℕ) (id first n : ℕ) (hn : n < 256) (w : Writer) (S : Li
             let ids = idsIn s ms in
             let c : length ids ≡ n = length-map ms (λ (m : Member). orElse 0 (idOf s (entry (m .type)))) ∙ members-length b first n in
             let a : 65536 * (n + 2) + 30 ≡ low (65536 * suc (suc (length ids)) + 30) = omega arith in
-            let r : waiting w S₂ 2 ≡ (65536 * (n + 2) + 30) ∷ t ∷ [] = q .more ∙ ap (λ (l : List ℕ). l ++ t ∷ []) (p .more) in
-            ap (λ (l : List ℕ). l ++ map low ids) r ∙ (λ j. a j ∷ e j ∷ map low ids);
+            ap (λ (l : List ℕ). l ++ map low ids) (p .more) ∙ (λ j. a j ∷ low id ∷ map low ids);
       }
 
   module _ (S₁ : List ℕ) (p k j : ℕ) (g : Putting b T id first n w S S₁ p k j) where
     pub next : 0 < k → (ty x y q : ℕ) → ty ≡ u16At b p → ((R : List ℕ) (s : State) → Held w T R s → x ≡ orElse 0 (idOf s (entry ty)))
-        → y ≡ low x → q ≡ nameEnd b (p + 6) → q ≤ p + 6 + 255 → (S₂ : List ℕ) → Pending j y w S₁ S₂ → length S₂ ≡ length S₁ → Putting b T id first n w S S₂ q (k - 1) (j + 1)
+        → y ≡ low x → q ≡ nameEnd b (p + 6) → q ≤ p + 6 + 255 → (S₂ : List ℕ) → Pending j (y ∷ []) w S₁ S₂ → length S₂ ≡ length S₁ → Putting b T id first n w S S₂ q (k - 1) (j + 1)
     next hk ty x y q et ex ey eq hq S₂ d l =
         record {
           place = omega (arith, g .place);

@@ -1,11 +1,9 @@
 // Arrays, and a struct's instruction, each under the id that was taken for it.
 use lookup::LookupType;
 use spirv::instructions::DECORATION_ARRAY_STRIDE;
-use spirv::instructions::OP_DECORATE;
-use spirv::instructions::OP_TYPE_ARRAY;
-use spirv::instructions::OP_TYPE_RUNTIME_ARRAY;
-use spirv::instructions::OP_TYPE_STRUCT;
+use spirv::low_word;
 use writer::Writer;
+use writer::sections;
 ghost use Prim.Native.Nat.{_+_, _<_};
 ghost use Rattle.definition.specs.Sheet.{membersAt};
 ghost use Rattle.writer.specs.Cost.{nothing, declaring};
@@ -29,24 +27,10 @@ pub fn write_elements(
 {
     let f = finding::get_type_id(tables, sections, w, LookupType::Handle(base));
     if size == 0 {
-        return writer::declare(
-            sections,
-            f.writer,
-            OP_TYPE_RUNTIME_ARRAY,
-            &[writer::low_word(id), writer::low_word(f.id)],
-        );
+        return sections::type_runtime_array(sections, f.writer, id, f.id);
     }
     let g = finding::get_index_constant(tables, sections, f.writer, size);
-    writer::declare(
-        sections,
-        g.writer,
-        OP_TYPE_ARRAY,
-        &[
-            writer::low_word(id),
-            writer::low_word(f.id),
-            writer::low_word(g.id),
-        ],
-    )
+    sections::type_array(sections, g.writer, id, f.id, g.id)
 }
 
 // An Array: its stride is written before its base and its length are found.
@@ -62,17 +46,12 @@ pub fn write_array(
     requires { ⌜ Room arrayCost w (now tables) (now sections) ⌝ }
     ensures { λ r. ⌜ Kept arrayCost (arrayDeclared base size stride id) w (now (tables .entry)) (now (sections .entry)) r (now (tables .exit)) (now (sections .exit)) ⌝ }
 {
-    let a = writer::annotate(
-        sections,
-        w,
-        OP_DECORATE,
-        &[writer::low_word(id), DECORATION_ARRAY_STRIDE, stride],
-    );
+    let a = sections::decorate(sections, w, id, DECORATION_ARRAY_STRIDE, &[stride]);
     write_elements(tables, sections, a, id, base, size)
 }
 
-// OpTypeStruct of the `count` members from `first` on. Its head goes out first, with the word count in the high half of the
-// first word, since the count is known; then an id a turn, so that the ids need no array. A member's type is an entry, and
+// OpTypeStruct of the `count` members from `first` on. Its head goes out first, since the count is known; then an id a turn,
+// so that the ids need no array. A member's type is an entry, and
 // finding an entry adds nothing.
 pub fn put_struct(
     tables: &[u64],
@@ -86,15 +65,14 @@ pub fn put_struct(
     requires { ⌜ (first < 1000) × (RoomIn nothing w (now tables) × RoomFor (declaring (count + 2)) w (now sections)) ⌝ }
     ensures { λ r. ⌜ StructPut id (membersAt (now (b .entry)) first count) count w (now (tables .entry)) (now (sections .entry)) r (now (sections .exit)) ⌝ }
 {
-    writer::put_pending(sections, w, 0, 65536 * (count as u32 + 2) + OP_TYPE_STRUCT);
-    writer::put_pending(sections, w, 1, writer::low_word(id));
+    sections::type_struct_head(sections, w, id, count as usize);
     let mut p = first;
     let mut k = count;
     let mut j: usize = 2;
     while 0 < k {
         let ty = fields::u16_at(b, p);
         let x = finding::type_id(tables, w, LookupType::Handle(ty));
-        writer::put_pending(sections, w, j, writer::low_word(x));
+        writer::put_pending(sections, w, j, low_word(x));
         p = fields::name_end(b, p + 6);
         j += 1;
         k -= 1;

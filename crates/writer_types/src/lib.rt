@@ -2,7 +2,7 @@
 // entry is read again from the sheet.
 mod aggregates;
 mod names;
-pub mod structs;
+mod structs;
 
 use entries::types::TypeInner;
 use locals::Made;

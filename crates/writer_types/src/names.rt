@@ -4,9 +4,9 @@ use entries::members::name_part;
 use writer::Writer;
 ghost use mathlib.Core.Path.{_≡_};
 ghost use mathlib.Core.Bool.{_&&_};
-ghost use Prim.Native.Nat.{_+_, _<_, _^_};
+ghost use Prim.Native.Nat.{_+_};
 ghost use Rattle.definition.specs.Bytes.{nameAt};
-ghost use Rattle.definition.specs.Instructions.{name, memberName};
+ghost use Rattle.definition.specs.Instructions.{name};
 ghost use Rattle.definition.specs.Tests.{present};
 ghost use Rattle.definition.specs.Rules.{labelIf};
 ghost use Rattle.writer.specs.Cost.{naming};
@@ -15,7 +15,7 @@ ghost use Rattle.writer.specs.Steps.{Added};
 ghost use Rattle.writer_types.specs.Costs.{nameLength};
 
 // Whether there is a name at p that is to be written.
-fn is_written(b: &[u8], debug: bool, p: usize) -> bool
+pub fn is_written(b: &[u8], debug: bool, p: usize) -> bool
     ensures { λ r. ⌜ r ≡ (debug && present (nameAt (now (b .entry)) p)) ⌝ }
 {
     debug && has_name(b, p)
@@ -30,23 +30,4 @@ pub fn name_type(sections: &mut [u32], w: Writer, b: &[u8], debug: bool, id: u64
         return w;
     }
     writer::label(sections, w, id, name_part(b, 0))
-}
-
-// The name of member i, which stands at p.
-pub fn name_member(
-    sections: &mut [u32],
-    w: Writer,
-    b: &[u8],
-    debug: bool,
-    id: u64,
-    i: u32,
-    p: usize,
-) -> Writer
-    requires { ⌜ (p < 2 ^ 63) × RoomFor (naming (nameLength (nameAt (now b) p) + 4)) w (now sections) ⌝ }
-    ensures { λ r. ⌜ Added (naming (nameLength (nameAt (now (b .entry)) p) + 4)) (labelIf debug (memberName id i) (nameAt (now (b .entry)) p)) w (now (sections .entry)) r (now (sections .exit)) ⌝ }
-{
-    if !is_written(b, debug, p) {
-        return w;
-    }
-    writer::label_member(sections, w, id, i, name_part(b, p))
 }

@@ -1,58 +1,29 @@
 // A struct in two passes: its members' decorations and names, and Block; then OpTypeStruct. A member is 16 bits of type, 32 of
 // offset, and a name; the next stands behind the name.
 use crate::aggregates::put_struct;
-use crate::names::name_member;
+use crate::names::is_written;
+use entries::members::name_part;
 use spirv::instructions::DECORATION_BLOCK;
-use spirv::instructions::DECORATION_COL_MAJOR;
-use spirv::instructions::DECORATION_MATRIX_STRIDE;
-use spirv::instructions::DECORATION_OFFSET;
-use spirv::instructions::OP_DECORATE;
-use spirv::instructions::OP_MEMBER_DECORATE;
-use type_facts::Number;
 use type_facts::element_stride;
 use type_facts::is_dynamic;
 use writer::Writer;
+use writer::sections;
+use writer_members::decorate_struct_member;
 ghost use mathlib.Core.Path.{_≡_};
 ghost use Prim.Native.Nat.{_+_, _≤_, _<_};
 ghost use lib.ListN.{length};
 ghost use Rattle.definition.specs.Bytes.{nameAt};
 ghost use Rattle.definition.specs.Sheet.{membersAt};
-ghost use Rattle.definition.specs.Rules.{strideMember, decorateMember, anyDynamic, annotateIf, block, declareStruct};
+ghost use Rattle.definition.specs.Rules.{decorateMember, anyDynamic, annotateIf, block, declareStruct};
 ghost use Rattle.records.specs.Places.{typesFrom};
-ghost use Rattle.type_facts.specs.Facets.{numberOf};
 ghost use Rattle.writer.specs.Cost.{annotating};
 ghost use Rattle.writer.specs.Held.{RoomFor, Room};
 ghost use Rattle.writer.specs.Steps.{Kept, Added};
 ghost use Rattle.writer_types.specs.Members.{memberAt, decorated};
 ghost use Rattle.writer_types.specs.Costs.{memberCost, membersCost, structCost};
 
-// How the columns of member i lie, where it has columns: of a struct, and of a global's wrapper.
-pub fn stride_member(sections: &mut [u32], w: Writer, id: u64, i: u32, x: Number) -> Writer
-    requires { ⌜ RoomFor (annotating 9) w (now sections) ⌝ }
-    ensures { λ r. ⌜ Added (annotating 9) (strideMember (numberOf x) id i) w (now (sections .entry)) r (now (sections .exit)) ⌝ }
-{
-    match x {
-        Number::Nothing => w,
-        Number::Of(n) => {
-            let t = writer::low_word(id);
-            let a = writer::annotate(
-                sections,
-                w,
-                OP_MEMBER_DECORATE,
-                &[t, i, DECORATION_COL_MAJOR],
-            );
-            writer::annotate(
-                sections,
-                a,
-                OP_MEMBER_DECORATE,
-                &[t, i, DECORATION_MATRIX_STRIDE, n],
-            )
-        }
-    }
-}
-
-// Member i, which stands at p: its Offset, its name, its columns.
-fn decorate_struct_member(
+// Member i, which stands at p.
+fn decorate_member_at(
     sections: &mut [u32],
     w: Writer,
     s: &[u8],
@@ -67,16 +38,11 @@ fn decorate_struct_member(
     requires { ⌜ (n ≤ length (now types)) × ((p < 4294967296) × RoomFor (memberCost (nameAt (now b) (p + 6))) w (now sections)) ⌝ }
     ensures { λ r. ⌜ Added (memberCost (nameAt (now (b .entry)) (p + 6))) (decorateMember debug (typesFrom (now (s .entry)) (now (types .entry)) n) id i (memberAt (now (b .entry)) p)) w (now (sections .entry)) r (now (sections .exit)) ⌝ }
 {
-    let t = writer::low_word(id);
-    let a = writer::annotate(
-        sections,
-        w,
-        OP_MEMBER_DECORATE,
-        &[t, i, DECORATION_OFFSET, fields::u32_at(b, p + 2)],
-    );
-    let v = name_member(sections, a, b, debug, id, i, p + 6);
-    let x = element_stride(s, types, n, fields::u16_at(b, p) as usize);
-    stride_member(sections, v, id, i, x)
+    let offset = fields::u32_at(b, p + 2);
+    let named = is_written(b, debug, p + 6);
+    let stride = element_stride(s, types, n, fields::u16_at(b, p) as usize);
+    let name = name_part(b, p + 6);
+    decorate_struct_member(sections, w, id, i, offset, named, name, stride)
 }
 
 // The `count` members from `first` on, one after the other.
@@ -100,7 +66,7 @@ fn decorate_struct_members(
     let mut k = count;
     let mut i: u32 = 0;
     while 0 < k {
-        v = decorate_struct_member(sections, v, s, types, n, b, debug, id, i, p);
+        v = decorate_member_at(sections, v, s, types, n, b, debug, id, i, p);
         p = fields::name_end(b, p + 6);
         i += 1;
         k -= 1;
@@ -133,12 +99,7 @@ fn block_if(sections: &mut [u32], w: Writer, dynamic: bool, id: u64) -> Writer
     if !dynamic {
         return w;
     }
-    writer::annotate(
-        sections,
-        w,
-        OP_DECORATE,
-        &[writer::low_word(id), DECORATION_BLOCK],
-    )
+    sections::decorate(sections, w, id, DECORATION_BLOCK, &[])
 }
 
 // A struct of `count` members, the first of which stands at `first`.

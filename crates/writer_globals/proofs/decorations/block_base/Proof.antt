@@ -18,18 +18,11 @@ returns-2 c = let a = c .before .before .before .before .before .before .args in
     kept-still (annotating 3) (a .w) (a .tables .now) (a .sections .now) (no-base (spaceNumber (a .space)) (c .before .before .before .space-number .result) (c .before .before .before .space-number .ensures .0) (indexOf (a .base)) (c .before .before .if1 .left) (ap indexOf (c .enum-told .given .1)))
 
 returns-3 : tie.Need-returns-3
-returns-3 c =
-    let c₁ = c .before .before .before .before in
-    let c₂ = c₁ .before .before .before .before .before .before in
-    let c₃ = c₂ .before .before .before .before in
-    let c₄ = c₃ .before .before in
-    let c₅ = c₄ .before in
-    let c₆ = c₅ .before .before .before in
-    let a = c₆ .args in
-    on-base (spaceNumber (a .space)) (c₅ .space-number .result) (c₅ .space-number .ensures .0) (indexOf (a .base)) (c₄ .if1 .left) (ap indexOf (c₃ .base .given .1)) (c₂ .get-type-id .ensures) (c₁ .low-word .ensures) (c .before .before .annotate .ensures)
+returns-3 c = let a = c .before .before .before .before .before .before .before .before .before .before .before .before .before .before .before .before .before .before .before .args in
+    on-base (spaceNumber (a .space)) (c .before .before .before .before .before .before .before .before .before .before .before .before .before .before .before .before .space-number .result) (c .before .before .before .before .before .before .before .before .before .before .before .before .before .before .before .before .space-number .ensures .0) (indexOf (a .base)) (c .before .before .before .before .before .before .before .before .before .before .before .before .before .before .before .if1 .left) (ap indexOf (c .before .before .before .before .before .before .before .before .before .before .before .before .before .base .given .1)) (c .before .before .before .before .before .before .before .before .before .get-type-id .ensures) (c .before .before .decorate .ensures)
 
 pub block-base-spec : {M : Type 1} → statement M
 block-base-spec =
     tie.close
-    (tie.spec (λ c κs. search needs) returns (λ c. search needs) (λ c. search needs) (λ c κs. search needs) (λ c κs. search needs)
+    (tie.spec (λ c κs. search needs) returns (λ c. search needs) (λ c. search needs) (λ c κs. search needs)
     (λ c. search needs) (λ c κs. search needs) returns-2 (λ c. search needs) (λ c. search needs) returns-3)

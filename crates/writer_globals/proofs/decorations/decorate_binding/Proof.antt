@@ -1,7 +1,6 @@
 -- Nothing of an unbound global, two decorations of a bound one.
 -- Its numbers are words, since the fields of a binding are 32 bits wide.
 use mathlib.Core.Path.{ap}
-use native.Mathlib.Omega.{arith}
 use borrow.Author.Needs.{needs}
 use Rattle.entries.specs.declared.globals.Binding.{Binding}
 use Rattle.writer.specs.Cost.{annotating}
@@ -15,17 +14,11 @@ returns c = let a = c .before .before .before .args in
     still (annotating 8) (a .w) (a .sections .now) (λ s. ap (λ (b : Binding). bindingDecorated b (a .id) s) (c .enum-told .given .1))
 
 returns-2 : tie.Need-returns-2
-returns-2 c =
-    let c₁ = c .before .before .before .before .before .before .before in
-    let c₂ = c₁ .before .before .before in
-    let c₃ = c₂ .before in
-    let c₄ = c₃ .before in
-    let c₅ = c₄ .before .before .before in
-    let a = c₅ .args in
-    bound (a .id) (c₄ .binding .given .0 .0) (omega (arith, c₃ .known-told .given)) (omega (arith, c₃ .known-told .given)) (c₂ .low-word .ensures) (c₁ .annotate .ensures) (c .before .before .annotate2 .ensures) (a .binding) (c₄ .binding .given .1)
+returns-2 c = let a = c .before .before .before .before .before .before .before .before .before .before .before .before .before .before .args in
+    bound (a .id) (c .before .before .before .before .before .before .before .before .before .before .before .binding .given .0 .0) (c .before .before .before .before .before .before .before .decorate .ensures) (c .before .before .decorate2 .ensures) (a .binding) (c .before .before .before .before .before .before .before .before .before .before .before .binding .given .1)
 
 pub decorate-binding-spec : {M : Type 1} → statement M
 decorate-binding-spec =
     tie.close
-    (tie.spec (λ c. search needs) (λ c. search needs) (λ c κs. search needs) (λ c. search needs) (λ c κs. search needs)
-    (λ c. search needs) (λ c κs. search needs) returns (λ c. search needs) returns-2)
+    (tie.spec (λ c. search needs) (λ c. search needs) (λ c. search needs) (λ c κs. search needs) (λ c. search needs)
+    (λ c κs. search needs) returns (λ c. search needs) returns-2)

@@ -14,40 +14,36 @@ abbrev μ-loop : tie.MeasureT-loop
 μ-loop tables sections₀ w b id first count p₀ k₀ j₀ sections p k j = k
 
 loop-holds : tie.Need-loop-holds Inv-loop μ-loop
-loop-holds c = let a = c .before .before .before .before .before .before .before .before .before .before .before .before .args in
-    let x = c .before .before .before .before .before .before .before .put-pending in
-    let t = c .before .before .before .low-word in
-    let y = c .before .before .put-pending2 in
-    headed (a .b .now) (a .tables .now) (a .id) (a .first) (a .count) (omega (arith, c .before .before .before .before .before .before .before .before .before .before .before .before .fits)) (a .w) (a .sections .now) (x .last .0) (x .ensures) (t .result) (t .ensures) (y .last .0) (y .ensures)
+loop-holds c = let a = c .before .before .before .before .before .before .before .args in
+    let x = c .before .before .type-struct-head in
+    headed (a .b .now) (a .tables .now) (a .id) (a .first) (a .count) (omega (arith, c .before .before .before .before .before .before .before .fits)) (a .w) (a .sections .now) (x .last .0) (x .ensures)
 
 loop-again : tie.Need-loop-again Inv-loop μ-loop
-loop-again c = let a = c .before .before .before .before .before .before .before .before .before .before .before .before .before .before .before .before .before .before .before .before .before .before .args in
-    let y = c .before .before .before .before .before .before .before .before .before .before .before .before .put-pending2 in
+loop-again c = let a = c .before .before .before .before .before .before .before .before .before .before .before .before .before .before .before .before .before .args in
+    let y = c .before .before .before .before .before .before .before .before .before .before .before .before .type-struct-head in
     let l = c .before .before .before .before .before .before .before .before .before .loop in
     let t = c .before .before .before .before .before .before .before .u16-at in
     let x = c .before .before .before .before .before .before .type-id in
-    let z = c .before .before .before .before .low-word2 in
-    let d = c .before .before .before .put-pending3 in
+    let z = c .before .before .before .before .low-word in
+    let d = c .before .before .before .put-pending in
     let e = c .name-end in
-    next (a .b .now) (a .tables .now) (a .id) (a .first) (a .count) (omega (arith, c .before .before .before .before .before .before .before .before .before .before .before .before .before .before .before .before .before .before .before .before .before .before .fits)) (a .w) (y .last .0) (l .sections) (l .p) (l .k) (l .j) (l .inv) (c .before .before .before .before .before .before .before .before .loop-test .taken)
+    next (a .b .now) (a .tables .now) (a .id) (a .first) (a .count) (omega (arith, c .before .before .before .before .before .before .before .before .before .before .before .before .before .before .before .before .before .fits)) (a .w) (y .last .0) (l .sections) (l .p) (l .k) (l .j) (l .inv) (c .before .before .before .before .before .before .before .before .loop-test .taken)
     (t .result) (x .result) (z .result) (e .result) (t .ensures) (x .ensures) (z .ensures) (e .ensures .0) (omega (arith, e .ensures .1)) (d .last .0) (d .ensures) (d .kept .0)
 
 same-length : tie.Need-same-length Inv-loop μ-loop
-same-length c = c .before .before .loop .inv .size ∙ c .before .before .before .before .before .put-pending2 .kept .0 ∙ c .before .before .before .before .before .before .before .before .before .before .put-pending .kept .0
+same-length c = c .before .before .loop .inv .size ∙ c .before .before .before .before .before .type-struct-head .kept .0
 
 returns : tie.Need-returns Inv-loop μ-loop
-returns c = let a = c .before .before .before .before .before .before .before .before .before .before .before .before .before .before .before .args in
-    let x = c .before .before .before .before .before .before .before .before .before .before .put-pending in
-    let y = c .before .before .before .before .before .put-pending2 in
+returns c = let a = c .before .before .before .before .before .before .before .before .before .before .args in
+    let y = c .before .before .before .before .before .type-struct-head in
     let l = c .before .before .loop in
     let d = c .commit in
-    let r = ended (a .b .now) (a .tables .now) (a .id) (a .first) (a .count) (omega (arith, c .before .before .before .before .before .before .before .before .before .before .before .before .before .before .before .fits)) (a .w) (y .last .0) (l .sections) (l .p) (l .k) (l .j) (l .inv) (omega (arith, c .before .loop-test)) (d .result) (d .ensures) in
-    record { grown = r .grown; held = λ s h. r .held s (y .ensures .still (a .tables .now) s (x .ensures .still (a .tables .now) s h)) }
+    let r = ended (a .b .now) (a .tables .now) (a .id) (a .first) (a .count) (omega (arith, c .before .before .before .before .before .before .before .before .before .before .fits)) (a .w) (y .last .0) (l .sections) (l .p) (l .k) (l .j) (l .inv) (omega (arith, c .before .loop-test)) (d .result) (d .ensures) in
+    record { grown = r .grown; held = λ s h. r .held s (y .ensures .still (a .tables .now) s h) }
 
 pub put-struct-spec : {M : Type 1} → statement M
 put-struct-spec =
     tie.close
-    (tie.spec Inv-loop μ-loop (λ c. search needs) (λ c. search needs) (λ c. search needs) (λ c κs. search needs)
-    (λ c κs. search needs) (λ c κs. search needs) loop-holds (λ c κs. search needs) (λ c κs. search needs) (λ c κs. search needs)
-    (λ c κs. search needs) (λ c. search needs) (λ c κs. search needs) (λ c. search needs) (λ c. search needs) (λ c. search needs)
-    loop-again (λ c κs. search needs) same-length returns)
+    (tie.spec Inv-loop μ-loop (λ c κs. search needs) loop-holds (λ c κs. search needs) (λ c κs. search needs)
+    (λ c κs. search needs) (λ c κs. search needs) (λ c. search needs) (λ c κs. search needs) (λ c. search needs)
+    (λ c. search needs) (λ c. search needs) loop-again (λ c κs. search needs) same-length returns)

@@ -6,14 +6,13 @@ use Rattle.writer_types.proofs.aggregates.write_array.Statement.{statem
 use Rattle.writer_types.proofs.aggregates.write_array.Tie as tie
 
 returns : tie.Need-returns
-returns c = let a = c .before .before .before .before .before .before .before .before .before .before .before .before .before .before .before .args in
-    let i = c .before .before .before .before .before .before .before .before .before .before .before .low-word in
-    let m = c .before .before .before .before .before .before .before .before .before .annotate in
+returns c = let a = c .before .before .before .before .before .before .before .before .before .before .before .before .before .before .args in
+    let m = c .before .before .before .before .before .before .before .before .before .decorate in
     let d = c .before .before .before .before .write-elements in
-    strided (a .base) (a .size) (a .stride) (a .id) (omega (arith, c .before .before .before .before .before .before .before .before .before .before .before .before .before .before .before .fits)) (a .w) (a .tables .now) (a .sections .now) (i .result) (i .ensures) (m .result) (m .last .0) (m .ensures) (d .result) (d .last .0) (d .last .1 .0) (d .ensures)
+    strided (a .base) (a .size) (a .stride) (a .id) (a .w) (a .tables .now) (a .sections .now) (m .result) (m .last .0) (m .ensures) (d .result) (d .last .0) (d .last .1 .0) (d .ensures)
 
 pub write-array-spec : {M : Type 1} → statement M
 write-array-spec =
     tie.close
-    (tie.spec (λ c κs. search needs) (λ c. search needs) (λ c κs. search needs) (λ c κs. search needs) (λ c. search needs)
-    (λ c. search needs) returns)
+    (tie.spec (λ c. search needs) (λ c κs. search needs) (λ c κs. search needs) (λ c. search needs) (λ c. search needs)
+    returns)

@@ -7,36 +7,28 @@ use Rattle.writer_types.proofs.aggregates.write_elements.Statement.{sta
 use Rattle.writer_types.proofs.aggregates.write_elements.Tie as tie
 
 returns : tie.Need-returns
-returns c = let a = c .before .before .before .before .before .before .before .before .before .before .before .before .before .before .before .before .before .args in
-    let f = c .before .before .before .before .before .before .before .before .before .before .before .before .get-type-id in
-    let i = c .before .before .before .before .before .low-word in
-    let x = c .before .before .before .before .low-word2 in
-    let d = c .before .before .declare in
-    runtime (a .base) (a .size) (a .id) (a .w) (a .tables .now) (a .sections .now) (f .result) (f .last .0) (f .last .1 .0) (f .ensures) (c .before .before .before .before .before .before .before .if1 .taken)
-    (i .result) (x .result) (i .ensures) (x .ensures) (d .result) (d .last .0) (d .ensures)
+returns c = let a = c .before .before .before .before .before .before .before .before .before .before .before .before .before .before .args in
+    let f = c .before .before .before .before .before .before .before .before .before .get-type-id in
+    let d = c .before .before .type-runtime-array in
+    runtime (a .base) (a .size) (a .id) (a .w) (a .tables .now) (a .sections .now) (f .result) (f .last .0) (f .last .1 .0) (f .ensures) (c .before .before .before .before .if1 .taken) (d .result) (d .last .0) (d .ensures)
 
-declare-requires-2 : tie.Need-declare-requires-2
-declare-requires-2 c κs = let f = c .before .before .before .before .before .before .before .before .before .before .before .before .before .before .before .before .before .get-type-id in
-    let g = c .before .before .before .before .before .before .before .before .before .get-index-constant in
-    (omega arith, omega arith, omega (arith, g .ensures .grown, g .kept, f .ensures .grown, f .kept, c .before .before .before .before .before .before .before .before .before .before .before .before .before .before .before .before .before .before .before .before .before .before .pre .words))
+type-array-requires : tie.Need-type-array-requires
+type-array-requires c κs = let f = c .before .before .before .before .before .before .before .before .before .before .before .before .before .get-type-id in
+    let g = c .before .before .before .before .before .get-index-constant in
+    omega (arith, g .ensures .grown, g .kept, f .ensures .grown, f .kept, c .before .before .before .before .before .before .before .before .before .before .before .before .before .before .before .before .before .before .pre .words)
 
 same-length-3 : tie.Need-same-length-3
-same-length-3 c = c .before .before .before .before .before .before .before .before .before .before .before .before .get-index-constant .kept .0 ∙ c .before .before .before .before .before .before .before .before .before .before .before .before .before .before .before .before .before .before .before .before .get-type-id .kept .0
+same-length-3 c = c .before .before .before .before .before .before .before .before .get-index-constant .kept .0 ∙ c .before .before .before .before .before .before .before .before .before .before .before .before .before .before .before .before .get-type-id .kept .0
 
 returns-2 : tie.Need-returns-2
-returns-2 c = let a = c .before .before .before .before .before .before .before .before .before .before .before .before .before .before .before .before .before .before .before .before .before .before .before .before .before .args in
-    let f = c .before .before .before .before .before .before .before .before .before .before .before .before .before .before .before .before .before .before .before .before .get-type-id in
-    let g = c .before .before .before .before .before .before .before .before .before .before .before .before .get-index-constant in
-    let i = c .before .before .before .before .before .before .low-word3 in
-    let x = c .before .before .before .before .before .low-word4 in
-    let y = c .before .before .before .before .low-word5 in
-    let d = c .before .before .declare2 in
-    sized (a .base) (a .size) (a .id) (a .w) (a .tables .now) (a .sections .now) (f .result) (f .last .0) (f .last .1 .0) (f .ensures) (c .before .before .before .before .before .before .before .before .before .before .before .before .before .before .before .if1 .left) (g .result) (g .last .0) (g .last .1 .0) (g .ensures)
-    (i .result) (x .result) (y .result) (i .ensures) (x .ensures) (y .ensures) (d .result) (d .last .0) (d .ensures)
+returns-2 c = let a = c .before .before .before .before .before .before .before .before .before .before .before .before .before .before .before .before .before .before .before .before .before .args in
+    let f = c .before .before .before .before .before .before .before .before .before .before .before .before .before .before .before .before .get-type-id in
+    let g = c .before .before .before .before .before .before .before .before .get-index-constant in
+    let d = c .before .before .type-array in
+    sized (a .base) (a .size) (a .id) (a .w) (a .tables .now) (a .sections .now) (f .result) (f .last .0) (f .last .1 .0) (f .ensures) (c .before .before .before .before .before .before .before .before .before .before .before .if1 .left) (g .result) (g .last .0) (g .last .1 .0) (g .ensures) (d .result) (d .last .0) (d .ensures)
 
 pub write-elements-spec : {M : Type 1} → statement M
 write-elements-spec =
     tie.close
-    (tie.spec (λ c κs. search needs) (λ c κs. search needs) (λ c κs. search needs) (λ c. search needs) (λ c κs. search needs)
-    (λ c. search needs) (λ c. search needs) returns (λ c κs. search needs) (λ c κs. search needs) (λ c κs. search needs)
-    (λ c κs. search needs) (λ c. search needs) declare-requires-2 same-length-3 (λ c. search needs) returns-2)
+    (tie.spec (λ c κs. search needs) (λ c κs. search needs) (λ c. search needs) (λ c. search needs) returns
+    (λ c κs. search needs) type-array-requires same-length-3 (λ c. search needs) returns-2)

@@ -5,15 +5,10 @@ use Rattle.writer_types.proofs.structs.block_if.Statement.{statement}
 use Rattle.writer_types.proofs.structs.block_if.Tie as tie
 
 returns : tie.Need-returns
-returns c = let a = c .before .before .args in
-    unblocked (a .dynamic) (a .id) (c .if1 .taken) (a .w) (a .sections .now)
+returns c = let a = c .before .before .args in unblocked (a .dynamic) (a .id) (c .if1 .taken) (a .w) (a .sections .now)
 
 returns-2 : tie.Need-returns-2
-returns-2 c = let a = c .before .before .before .before .before .before .before .before .args in
-    let t = c .before .before .before .before .low-word in
-    let d = c .before .before .annotate in
-    blocked (a .dynamic) (a .id) (c .before .before .before .before .before .before .if1 .left) (t .result) (t .ensures) (a .w) (a .sections .now) (d .result) (d .last .0) (d .ensures)
+returns-2 c = let a = c .before .before .before .before .before .before .before .args in blocked (a .dynamic) (a .id) (c .before .before .before .before .before .if1 .left) (c .before .before .decorate .ensures)
 
 pub block-if-spec : {M : Type 1} → statement M
-block-if-spec =
-    tie.close (tie.spec returns (λ c κs. search needs) (λ c. search needs) (λ c κs. search needs) (λ c. search needs) returns-2)
+block-if-spec = tie.close (tie.spec returns (λ c. search needs) (λ c κs. search needs) (λ c. search needs) returns-2)

@@ -17,8 +17,8 @@ loop-holds : tie.Need-loop-holds Inv-loop μ-loop
 loop-holds c = let a = c .before .before .before .before .args in
     begun (a .debug) (typesFrom (a .s .now) (a .types .now) (a .n)) (a .b .now) (a .id) (a .first) (a .count) (a .w) (a .sections .now)
 
-decorate-struct-member-requires : tie.Need-decorate-struct-member-requires Inv-loop μ-loop
-decorate-struct-member-requires c κs = let a = c .before .before .before .before .before .before .before .args in
+decorate-member-at-requires : tie.Need-decorate-member-at-requires Inv-loop μ-loop
+decorate-member-at-requires c κs = let a = c .before .before .before .before .before .before .before .args in
     let p = c .before .before .before .before .before .before .before .pre in
     let l = c .before .before .loop in
     let r = room-left (a .debug) (typesFrom (a .s .now) (a .types .now) (a .n)) (a .b .now) (a .id) (a .first) (a .count) (a .w) (a .sections .now) (l .v) (l .sections) (l .p) (l .k) (l .i) (l .inv) (c .before .loop-test .taken) in
@@ -27,7 +27,7 @@ decorate-struct-member-requires c κs = let a = c .before .before .before .befor
 loop-again : tie.Need-loop-again Inv-loop μ-loop
 loop-again c = let a = c .before .before .before .before .before .before .before .before .before .before .before .args in
     let l = c .before .before .before .before .before .before .loop in
-    let d = c .before .before .before .decorate-struct-member in
+    let d = c .before .before .before .decorate-member-at in
     let e = c .name-end in
     on (a .debug) (typesFrom (a .s .now) (a .types .now) (a .n)) (a .b .now) (a .id) (a .first) (a .count) (a .w) (a .sections .now) (l .v) (l .sections) (l .p) (l .k) (l .i) (l .inv) (c .before .before .before .before .before .loop-test .taken)
     (e .result) (e .ensures .0) (omega (arith, e .ensures .1)) (d .result) (d .last .0) (d .ensures) (d .kept .0)
@@ -43,5 +43,5 @@ returns c = let a = c .before .before .before .before .before .before .args in
 pub decorate-struct-members-spec : {M : Type 1} → statement M
 decorate-struct-members-spec =
     tie.close
-    (tie.spec Inv-loop μ-loop loop-holds decorate-struct-member-requires (λ c. search needs) (λ c κs. search needs)
+    (tie.spec Inv-loop μ-loop loop-holds decorate-member-at-requires (λ c. search needs) (λ c κs. search needs)
     (λ c. search needs) (λ c. search needs) (λ c. search needs) loop-again same-length returns)
