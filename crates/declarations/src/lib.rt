@@ -10,6 +10,10 @@ ghost use Rattle.declarations.specs.Promise.{DeclarePromise, CheckPromis
 ghost use Rattle.declarations.specs.Stages.{Lent, Roomed, Ended, Standing, WrappedAs, Answered, verdictFrom};
 
 // How large a sheet there is scratch for, by class, in bytes, and as many records as so many bytes can hold, or as a sheet may have.
+const LEAST: usize = 32;
+
+const LEAST_RECORDS: usize = 11;
+
 const TINY: usize = 128;
 
 const TINY_RECORDS: usize = 43;
@@ -124,6 +128,23 @@ fn answers_in(
     Answers { answer, wrapping }
 }
 
+fn answers_least(sheet: &[u8], words: &mut [u32], index: usize) -> Answers
+    requires { ⌜ length (now sheet) ≤ 32 ⌝ }
+    ensures { λ r. ⌜ Answered (now (sheet .entry)) (now (words .entry)) index r (now (words .exit)) ⌝ }
+{
+    let mut tables = [0u64; 296];
+    let mut sections = [0u32; 224];
+    answers_in(
+        sheet,
+        &mut tables,
+        &mut sections,
+        LEAST_RECORDS,
+        LEAST,
+        words,
+        index,
+    )
+}
+
 fn answers_tiny(sheet: &[u8], words: &mut [u32], index: usize) -> Answers
     requires { ⌜ length (now sheet) ≤ 128 ⌝ }
     ensures { λ r. ⌜ Answered (now (sheet .entry)) (now (words .entry)) index r (now (words .exit)) ⌝ }
@@ -196,22 +217,28 @@ fn answers_class(class: u8, sheet: &[u8], words: &mut [u32], index: usize) -> An
     ensures { λ r. ⌜ Answered (now (sheet .entry)) (now (words .entry)) index r (now (words .exit)) ⌝ }
 {
     if class == 0 {
-        if sheet.len() <= TINY {
-            return answers_tiny(sheet, words, index);
+        if sheet.len() <= LEAST {
+            return answers_least(sheet, words, index);
         }
         return answers_class(1, sheet, words, index);
     }
     if class == 1 {
-        if sheet.len() <= SMALL {
-            return answers_small(sheet, words, index);
+        if sheet.len() <= TINY {
+            return answers_tiny(sheet, words, index);
         }
         return answers_class(2, sheet, words, index);
     }
     if class == 2 {
+        if sheet.len() <= SMALL {
+            return answers_small(sheet, words, index);
+        }
+        return answers_class(3, sheet, words, index);
+    }
+    if class == 3 {
         if sheet.len() <= MIDDLE {
             return answers_middle(sheet, words, index);
         }
-        return answers_class(3, sheet, words, index);
+        return answers_class(4, sheet, words, index);
     }
     answers_large(sheet, words, index)
 }

@@ -49,6 +49,16 @@ pub fn whole_u32_at(s: &[u8], i: usize) -> u32
     high * 256 + s[i + 3] as u32
 }
 
+// Eight bytes as a number, where all of them are there.
+pub fn whole_u64_at(s: &[u8], i: usize) -> u64
+    requires { ⌜ i + 8 ≤ length (now s) ⌝ }
+    ensures { λ r. ⌜ r ≡ u64At (now (s .entry)) i ⌝ }
+{
+    let high = whole_u32_at(s, i);
+    let low = whole_u32_at(s, i + 4);
+    high as u64 * 4294967296 + low as u64
+}
+
 pub fn u64_at(s: &[u8], i: usize) -> u64
     ensures { λ r. ⌜ r ≡ u64At (now (s .entry)) i ⌝ }
 {
@@ -103,18 +113,19 @@ pub fn no_zero(s: &[u8]) -> bool
 fn is_plain(s: &[u8]) -> bool
     ensures { λ r. ⌜ (r ≡ true → (utf8 (now (s .entry)) ≡ true) × (noZero (now (s .entry)) ≡ true)) ⌝ }
 {
+    let mut plain = true;
     let mut i = 0;
     while i < s.len() {
         let b = s[i];
         if b == 0 {
-            return false;
+            plain = false;
         }
         if 0x7F < b {
-            return false;
+            plain = false;
         }
         i += 1;
     }
-    true
+    plain
 }
 
 // Whether the name that starts at i is none, or is UTF-8 without a zero byte. Its bytes are handed on as a part of s.

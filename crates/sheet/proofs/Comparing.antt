@@ -11,7 +11,7 @@ use borrow.Author.Tests.{eq-eqb, ne-eqb}
 use lib.Dec.{eqb}
 use lib.ListN.{length, getD, take}
 use lib.Seq.{take-all, take-take}
-use Rattle.definition.specs.Bytes.{u16At, u32At}
+use Rattle.definition.specs.Bytes.{u16At, u32At, u64At}
 use Rattle.definition.specs.Choice.{pick}
 use Rattle.definition.specs.Tests.{sameBytes}
 use Rattle.sheet.specs.Reading.{bytesAt}
@@ -113,3 +113,13 @@ unfolding bytesAt u32At u16At
 four a i =
     let e : i + 2 + 1 ≡ i + 3 = omega arith in
     rw (add-zero i) (omega (arith, ap (λ (j : ℕ). getD a j 0) e))
+
+pub eight : (a : List ℕ) (i : ℕ) → bytesAt a i 8 ≡ u64At a i
+unfolding bytesAt u64At
+eight a i =
+    let f = four a i in
+    let g = four a (i + 4) in
+    let p : i + 4 + 1 ≡ i + 5 = omega arith in
+    let q : i + 4 + 2 ≡ i + 6 = omega arith in
+    let r : i + 4 + 3 ≡ i + 7 = omega arith in
+    omega (arith, f, g, ap (λ (j : ℕ). getD a j 0) (add-zero (i + 4)), ap (λ (j : ℕ). getD a j 0) p, ap (λ (j : ℕ). getD a j 0) q, ap (λ (j : ℕ). getD a j 0) r)

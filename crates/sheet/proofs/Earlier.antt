@@ -1,10 +1,12 @@
 -- Test 12. A search for an entry among the first n places, one place a turn: one set of laws for whatever is looked for.
 -- Then two records by their tags and bodies.
-use Prim.Native.Nat.{ℕ, _+_, _≤_, _<_}
+use Prim.Native.Nat.{ℕ, zero, suc, _+_, _-_, _≤_, _<_}
 use mathlib.Core.Path.{_≡_, refl, ap, _∙_}
 use mathlib.Core.Bool.{Bool, true, false, _&&_, and-false}
 use mathlib.Core.List.{List, [], _∷_, map}
+use native.Mathlib.Nat.{add-zero}
 use native.Mathlib.Numerals.{add-one}
+use native.Mathlib.Omega.{arith}
 use borrow.Author.Tests.{eq-eqb, ne-eqb}
 use lib.Dec.{eqb}
 use lib.ListN.{length, getD, take, drop, drop-of-length-le}
@@ -37,6 +39,16 @@ module _ {F : List ℕ → Bool} {P : ℕ → Bool} (w : Search F P) (places : L
 
   pub none-left : n ≤ i → F (drop i (take n places)) ≡ false
   none-left h = ap F (drop-of-length-le (take n places) {i = i} (rw (length-take-le n places room) h)) ∙ w .none
+
+-- and so are all from i to r
+pub skip-to : {F : List ℕ → Bool} {P : ℕ → Bool} (w : Search F P) (places : List ℕ) (n i r : ℕ) → n ≤ length places → i ≤ r → r ≤ n
+    → ((j : ℕ) → i ≤ j → j < r → P (getD places j 0) ≡ false) → F (drop i (take n places)) ≡ F (drop r (take n places))
+skip-to {F} {P} w places n i r room lo hi e = let q : i + (r - i) ≡ r = omega arith in go (r - i) (omega arith) ∙ ap (λ (j : ℕ). F (drop j (take n places))) q
+  where
+    go : (k : ℕ) → i + k ≤ r → F (drop i (take n places)) ≡ F (drop (i + k) (take n places))
+    go zero h = rw (add-zero i) refl
+    go (suc k) h = let q : i + k + 1 ≡ i + suc k = omega arith in
+        go k (omega arith) ∙ skip w places n (i + k) room (omega arith) (e (i + k) (omega arith) (omega arith)) ∙ ap (λ (j : ℕ). F (drop j (take n places))) q
 
 pub types : (s : List ℕ) (r : Record) → Search (λ os. typeRead r (map (typeFrom s) os)) (λ o. sameRecord (recordFrom s o) r)
 unfolding typeRead

@@ -1,6 +1,6 @@
 -- A type's hash: a number of 32 bits that equal types have in common, so that types whose hashes differ need not be compared. It is
 -- kept beside the type's place. Which number it is decides nothing but how long test 12 takes.
-use Prim.Native.Nat.{ℕ, zero, suc, _+_, _*_, _/_, _%_, _<_}
+use Prim.Native.Nat.{ℕ, zero, suc, _+_, _*_, _/_, _%_, _≤_, _<_}
 use mathlib.Core.Path.{_≡_}
 use mathlib.Core.List.{List}
 use lib.ListN.{length, getD}
@@ -25,3 +25,7 @@ hashOf r = hashWords (r .body) (r .tag) (length (r .body) / 4 + 1)
 -- behind the places of the first n types stand their hashes
 abbrev pub Hashed : List ℕ → List ℕ → ℕ → Type 0
 Hashed s ts n = (i : ℕ) → i < n → getD ts (typesMost + i) 0 ≡ hashOf (recordFrom s (getD ts i 0))
+
+-- none of the types from i to r has the hash h
+abbrev pub Unlike : List ℕ → ℕ → ℕ → ℕ → Type 0
+Unlike ts h i r = (j : ℕ) → i ≤ j → j < r → getD ts (typesMost + j) 0 ≡ h → ⊥

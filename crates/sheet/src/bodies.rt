@@ -1,5 +1,5 @@
-// Two bodies of one hash compared: the bytes of a part from the last to the first, four at a time where there are four, so that
-// even 256 types that were drawn to have one hash are soon told apart.
+// Two bodies of one hash compared: the bytes of a part from the last to the first, eight or four at a time where there are so many,
+// so that even 256 types that were drawn to have one hash are soon told apart.
 ghost use mathlib.Core.Path.{_≡_};
 ghost use mathlib.Core.Bool.{true, false};
 ghost use Prim.Native.Nat.{_≤_};
@@ -14,7 +14,12 @@ pub fn same_up_to(a: &[u8], b: &[u8], p: usize, q: usize) -> bool
 {
     let mut j = q;
     while p < j {
-        if 4 <= j {
+        if 8 <= j {
+            j -= 8;
+            if fields::whole_u64_at(a, j) != fields::whole_u64_at(b, j) {
+                return false;
+            }
+        } else if 4 <= j {
             j -= 4;
             if fields::whole_u32_at(a, j) != fields::whole_u32_at(b, j) {
                 return false;

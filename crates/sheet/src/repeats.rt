@@ -12,7 +12,7 @@ ghost use Rattle.definition.specs.Sheet.{remapFields, entryOf};
 ghost use Rattle.definition.specs.Tests.{Seen, typesMost, typeRead, remapRead, repeated};
 ghost use Rattle.records.specs.Places.{typeFrom, remapFrom};
 ghost use Rattle.sheet_fields.specs.Fields.{recordOf};
-ghost use Rattle.sheet.specs.Hash.{Hashed};
+ghost use Rattle.sheet.specs.Hash.{Hashed, Unlike};
 ghost use Rattle.sheet.specs.Reading.{Looked, Stored};
 
 const STRUCT: u8 = 23;
@@ -40,6 +40,36 @@ fn member_end(b: &[u8], p: usize) -> usize
     if end < b.len() { end } else { b.len() }
 }
 
+// The first of the types from i to n whose hash is h, or n: four are looked at a turn.
+fn next_alike(types: &[u32], i: usize, n: usize, h: u32) -> usize
+    requires { ⌜ (i ≤ n) × (typesMost + n ≤ length (now types)) ⌝ }
+    ensures { λ r. ⌜ (i ≤ r) × ((r ≤ n) × Unlike (now (types .entry)) h i r) ⌝ }
+{
+    let mut j = i;
+    while 4 <= n - j {
+        if types[TYPES_MOST + j] == h {
+            return j;
+        }
+        if types[TYPES_MOST + j + 1] == h {
+            return j + 1;
+        }
+        if types[TYPES_MOST + j + 2] == h {
+            return j + 2;
+        }
+        if types[TYPES_MOST + j + 3] == h {
+            return j + 3;
+        }
+        j += 4;
+    }
+    while j < n {
+        if types[TYPES_MOST + j] == h {
+            return j;
+        }
+        j += 1;
+    }
+    n
+}
+
 // Whether one of the first n types has tag t and body b: the search is left at the first that is equal, and a type at the first
 // member that differs. Hashes, in which nearly all differ, are compared before all else.
 fn type_read(s: &[u8], types: &[u32], n: usize, t: u8, b: &[u8]) -> bool
@@ -55,6 +85,7 @@ fn type_read(s: &[u8], types: &[u32], n: usize, t: u8, b: &[u8]) -> bool
         let its_hash = types[TYPES_MOST + i];
         i += 1;
         if its_hash != hash {
+            i = next_alike(types, i, n, hash);
             continue 'entries;
         }
         let rest = records::rest_at(s, place as usize);
@@ -65,7 +96,8 @@ fn type_read(s: &[u8], types: &[u32], n: usize, t: u8, b: &[u8]) -> bool
         if e.len() != b.len() {
             continue 'entries;
         }
-        if !same_up_to(e, b, 0, fixed) {
+        // As the hash, this only saves time: bodies that differ are told apart eight bytes at a time.
+        if !same_up_to(e, b, 0, b.len()) {
             continue 'entries;
         }
         let mut p = fixed;

@@ -1,6 +1,6 @@
 -- What is left of the entries answers for all, as long as none was found. A hash, a tag, a length or a part that differs makes an
 -- entry another; one that is the same up to its last member is the one.
-use Prim.Native.Nat.{ℕ, _-_, _+_, _≤_}
+use Prim.Native.Nat.{ℕ, _-_, _+_, _≤_, _<_}
 use mathlib.Core.List.{List, map}
 use mathlib.Core.Bool.{true, false}
 use mathlib.Core.Path.{_≡_, refl, ap, sym, _∙_}
@@ -13,8 +13,8 @@ use Rattle.definition.specs.Tests.{typeRead, sameBytes, sameRecord}
 use Rattle.definition.specs.Sheet.{Record, recordAt}
 use Rattle.records.specs.Places.{typeFrom, recordFrom}
 use Rattle.sheet_fields.specs.Fields.{recordOf}
-use Rattle.sheet.proofs.Comparing.{other-length, part-differs, whole}
-use Rattle.sheet.proofs.Earlier.{skip, hit, none-left, types as search-types, other-tag, other-body, same}
+use Rattle.sheet.proofs.Comparing.{other-length, part-differs, shorter, whole}
+use Rattle.sheet.proofs.Earlier.{skip, skip-to, hit, none-left, types as search-types, other-tag, other-body, same}
 use Rattle.sheet.proofs.Hashes.{other-hash}
 use Rattle.sheet.proofs.repeats.type_read.Statement.{statement}
 use Rattle.sheet.proofs.repeats.type_read.Tie as tie
@@ -53,6 +53,10 @@ skips : (c : tie.In-entries Inv-loop μ-loop Inv-entries μ-entries) → sameRec
     → typeRead (sought c) (map (typeFrom (sheet c)) (take (c .before .before .before .before .before .before .before .args .n) (places c))) ≡ typeRead (sought c) (map (typeFrom (sheet c)) (drop (c .before .entries .i + 1) (take (c .before .before .before .before .before .before .before .args .n) (places c))))
 skips c e = c .before .entries .inv .1 .1 ∙ skip (search-types (sheet c) (sought c)) (places c) (c .before .before .before .before .before .before .before .args .n) (c .before .entries .i) (room c) (c .entries-test .taken) e
 
+-- an entry with another hash is another
+unlike : (c : tie.In-entries Inv-loop μ-loop Inv-entries μ-entries) (j : ℕ) → j < c .before .before .before .before .before .before .before .args .n → (getD (places c) (256 + j) 0 ≡ c .before .before .before .hash-of .result → ⊥) → sameRecord (recordFrom (sheet c) (getD (places c) j 0)) (sought c) ≡ false
+unlike c j h d = other-hash _ (sought c) (λ q. d (c .before .before .before .before .before .before .before .pre .1 j h ∙ q ∙ sym (c .before .before .before .hash-of .ensures)))
+
 -- the body is that of the record at the entry's place
 body-is : (c : tie.After-body-of Inv-loop μ-loop Inv-entries μ-entries) → now (c .body-of .result) ≡ here (c .before .before .before .before .before .before .before) .body
 body-is c = c .body-of .ensures ∙ ap (λ r. recordAt r .body) (c .before .before .before .rest-at .ensures)
@@ -65,8 +69,14 @@ entries-holds : tie.Need-entries-holds Inv-loop μ-loop Inv-entries μ-entries
 entries-holds c = (search needs, (refl, refl))
 
 entries-again : tie.Need-entries-again Inv-loop μ-loop Inv-entries μ-entries
-entries-again c = let k = c .before .before .before in
-    (search needs, (k .before .entries .inv .1 .0, skips k (other-hash (here k) (sought k) (λ q. c .if1 .taken (c .before .before .before .before .before .before .before .before .before .before .pre .1 (c .before .before .before .before .entries .i) (c .before .before .before .entries-test .taken) ∙ q ∙ sym (c .before .before .before .before .before .before .hash-of .ensures))))))
+entries-again c = let k = c .before .before .before .before in let r = c .next-alike .result in (
+  c .next-alike .ensures .1 .0,
+  (
+    k .before .entries .inv .1 .0,
+    skips k (unlike k (k .before .entries .i) (k .entries-test .taken) (c .before .if1 .taken))
+        ∙ skip-to (search-types (sheet k) (sought k)) (places k) (k .before .before .before .before .before .before .before .args .n) (k .before .entries .i + 1) r (room k) (c .next-alike .ensures .0) (c .next-alike .ensures .1 .0) (λ j lo hi. unlike k j (omega (arith, c .next-alike .ensures .1 .0)) (c .next-alike .ensures .1 .1 j lo hi)),
+  ),
+)
 
 cast-rest-at : tie.Need-cast-rest-at Inv-loop μ-loop Inv-entries μ-entries
 cast-rest-at c = omega (arith, c .before .before .shared-slice-known4 .given (c .before .before .before .before .entries .i))
@@ -79,13 +89,13 @@ entries-again-3 c = (search needs, (c .before .before .before .before .before .b
 
 same-up-to-requires : tie.Need-same-up-to-requires Inv-loop μ-loop Inv-entries μ-entries
 unfolding sameBytes
-same-up-to-requires c κs = (omega (arith, c .before .before .before .before .before .before .before .before .before .before .fixed-end .ensures, c .if3 .left), (c .before .before .before .before .before .before .before .before .before .before .fixed-end .ensures, refl))
+same-up-to-requires c κs = (omega (arith, c .if3 .left), (omega arith, refl))
 
 entries-again-4 : tie.Need-entries-again-4 Inv-loop μ-loop Inv-entries μ-entries
-entries-again-4 c = (search needs, (c .before .before .before .before .before .before .before .before .before .before .before .entries .inv .1 .0, skips (c .before .before .before .before .before .before .before .before .before .before) (other (c .before .before .before) (part-differs _ _ (c .before .before .before .before .before .before .before .before .before .before .before .before .fixed-end .result) (sym (c .before .same-up-to .ensures) ∙ not-true _ (c .if4 .taken))))))
+entries-again-4 c = (search needs, (c .before .before .before .before .before .before .before .before .before .before .before .entries .inv .1 .0, skips (c .before .before .before .before .before .before .before .before .before .before) (other (c .before .before .before) (part-differs _ _ (length (sought (c .before .before .before .before .before .before .before .before .before .before) .body)) (sym (c .before .same-up-to .ensures) ∙ not-true _ (c .if4 .taken))))))
 
 loop-holds : tie.Need-loop-holds Inv-loop μ-loop Inv-entries μ-entries
-loop-holds c = (c .before .before .before .before .before .before .before .before .before .before .before .before .fixed-end .ensures, (c .before .before .if3 .left, sym (c .before .same-up-to .ensures) ∙ not-false _ (c .if4 .left)))
+loop-holds c = (c .before .before .before .before .before .before .before .before .before .before .before .before .fixed-end .ensures, (c .before .before .if3 .left, shorter _ _ _ _ (c .before .before .before .before .before .before .before .before .before .before .before .before .fixed-end .ensures) (sym (c .before .same-up-to .ensures) ∙ not-false _ (c .if4 .left))))
 
 same-up-to-requires-2 : tie.Need-same-up-to-requires-2 Inv-loop μ-loop Inv-entries μ-entries
 same-up-to-requires-2 c κs = (omega (arith, c .member-end .ensures .1, c .before .before .loop .inv .1 .0), (c .member-end .ensures .1, c .before .before .loop .inv .1 .1))
@@ -113,7 +123,7 @@ type-read-spec =
     tie.close
     (tie.spec Inv-loop μ-loop Inv-entries μ-entries (λ c κs. search needs) (λ c κs. search needs) entries-holds
     (λ c. search needs) (λ c. search needs) (λ c. search needs) (λ c. search needs) (λ c. search needs) (λ c. search needs)
-    (λ c. search needs) entries-again cast-rest-at (λ c κs. search needs) (λ c κs. search needs) (λ c. search needs) entries-again-2
+    (λ c κs. search needs) (λ c. search needs) entries-again cast-rest-at (λ c κs. search needs) (λ c κs. search needs) (λ c. search needs) entries-again-2
     (λ c κs. search needs) (λ c. search needs) entries-again-3 same-up-to-requires (λ c. search needs) entries-again-4
     loop-holds (λ c κs. search needs) same-up-to-requires-2 (λ c. search needs) entries-again-5 (λ c. search needs) loop-again
     returns returns-2)
