@@ -41,14 +41,21 @@ ghost use Rattle.finding.specs.Found.{shapeDeclared, ShapePut};
 
 // Declares a shape under its id, once what it names is found, and lists its capabilities. x is the id of the type that it
 // names, y that of its length.
-fn put_declaration(sections: &mut [u32], w: Writer, l: LocalType, id: u64, x: u64, y: u64) -> Writer
+fn put_declaration(
+    sections: &mut [u32],
+    mut w: Writer,
+    l: LocalType,
+    id: u64,
+    x: u64,
+    y: u64,
+) -> Writer
     requires { ⌜ SmallShape (shapeOf l) × RoomFor (own (shapeOf l)) w (now sections) ⌝ }
     ensures { λ r. ⌜ ShapePut (shapeOf l) id x y w (now (sections .entry)) r (now (sections .exit)) ⌝ }
 {
     let c = lookup::capabilities_of(l);
-    let a = writer::list_capability(sections, w, c.first);
-    let mut b = writer::list_capability(sections, a, c.second);
-    let start = DECLARATIONS * b.bytes + b.declarations;
+    let first = writer::listed(sections, w.capabilities, c.first);
+    w.capabilities = writer::listed(sections, first, c.second);
+    let start = DECLARATIONS * w.bytes + w.declarations;
     let n = lookup::put_shape(
         &mut sections[start..],
         l,
@@ -56,8 +63,8 @@ fn put_declaration(sections: &mut [u32], w: Writer, l: LocalType, id: u64, x: u6
         low_word(x),
         low_word(y),
     );
-    b.declarations += n;
-    b
+    w.declarations += n;
+    w
 }
 
 // The id of a type, which is declared if it has none yet. Of an entry that is not there it is 0.
@@ -65,19 +72,24 @@ pub fn get_type_id(tables: &mut [u64], sections: &mut [u32], w: Writer, t: Looku
     requires { ⌜ Room (costOf (keyOf t)) w (now tables) (now sections) ⌝ }
     ensures { λ r. ⌜ GotBy (costOf (keyOf t)) (find (keyOf t)) w (now (tables .entry)) (now (sections .entry)) r (now (tables .exit)) (now (sections .exit)) ⌝ }
 {
-    let k = lookup::key(t);
-    match writer::find_type(tables, w, k) {
-        Sought::Id(id) => Taken { id, writer: w },
-        Sought::Absent => match t {
-            LookupType::Handle(_) => Taken { id: 0, writer: w },
-            LookupType::Local(l) => {
-                let n = writer::take_id(w);
-                let id = n.id;
-                let v = writer::enter_type(tables, n.writer, k, id);
-                let u = write_type_declaration_local(tables, sections, v, l, id);
-                Taken { id, writer: u }
-            }
+    match t {
+        LookupType::Handle(h) => match writer::find_type(tables, w, lookup::handle_key(h)) {
+            Sought::Id(id) => Taken { id, writer: w },
+            Sought::Absent => Taken { id: 0, writer: w },
         },
+        LookupType::Local(l) => {
+            let k = lookup::local_key(l);
+            match writer::find_type(tables, w, k) {
+                Sought::Id(id) => Taken { id, writer: w },
+                Sought::Absent => {
+                    let n = writer::take_id(w);
+                    let id = n.id;
+                    let v = writer::enter_type(tables, n.writer, k, id);
+                    let u = write_type_declaration_local(tables, sections, v, l, id);
+                    Taken { id, writer: u }
+                }
+            }
+        }
     }
 }
 

@@ -22,7 +22,7 @@ use spirv::instructions::type_vector;
 ghost use mathlib.Core.Path.{_≡_};
 ghost use mathlib.Core.List.{_++_};
 ghost use Prim.Native.Nat.{_<_};
-ghost use Rattle.definition.specs.Shapes.{kindOf, inner, sized, typeOf, scalar};
+ghost use Rattle.definition.specs.Shapes.{kindOf, inner, sized, typeOf, scalar, entry};
 ghost use Rattle.definition.specs.Finding.{kindCapabilities, formatCapabilities, dimCapabilities, capabilitiesOf};
 ghost use Rattle.definition.specs.Instructions.{words};
 ghost use Rattle.spirv.specs.Put.{Put};
@@ -216,7 +216,7 @@ fn value_key(size: VectorSize, k: u64, class: PointerClass) -> u64
 }
 
 // The key of a shape.
-fn local_key(l: LocalType) -> u64
+pub fn local_key(l: LocalType) -> u64
     ensures { λ r. ⌜ (r ≡ packedShape (shapeOf l)) × SmallShape (shapeOf l) ⌝ }
 {
     match l {
@@ -259,12 +259,19 @@ fn local_key(l: LocalType) -> u64
     }
 }
 
+// The key of an entry.
+pub fn handle_key(h: u16) -> u64
+    ensures { λ r. ⌜ (r ≡ packed (entry h)) × Small (entry h) ⌝ }
+{
+    base_key(0, h, 0, 0, 0)
+}
+
 // The number under which a type is looked up.
 pub fn key(t: LookupType) -> u64
     ensures { λ r. ⌜ (r ≡ packed (keyOf t)) × Small (keyOf t) ⌝ }
 {
     match t {
-        LookupType::Handle(h) => base_key(0, h, 0, 0, 0),
+        LookupType::Handle(h) => handle_key(h),
         LookupType::Local(l) => local_key(l),
     }
 }

@@ -60,14 +60,9 @@ list-equal (x ∷ a) (y ∷ b) e = go (eqb x y) refl (list-equal a b) e
     go true p f q = let u = eqb-true x y p in let v = f q in λ i. u i ∷ v i
     go false p f q = let z : _≡_ {A = ℕ} 0 1 = cc in absurd (omega arith)
 
-module _ (a b : List ℕ) (j : ℕ) (la : j < length a) (lb : j < length b) where
-  pub part-differs : (getD a j 0 ≡ getD b j 0 → ⊥) → sameList (drop j a) (drop j b) ≡ false
-  unfolding sameList
-  part-differs h = rw (drop-at1 a j la, drop-at1 b j lb, ne-eqb (getD a j 0) (getD b j 0) h)
-
-  pub part-same : getD a j 0 ≡ getD b j 0 → sameList (drop j a) (drop j b) ≡ sameList (drop (j + 1) a) (drop (j + 1) b)
-  unfolding sameList
-  part-same h = rw (drop-at1 a j la, drop-at1 b j lb, eq-eqb (getD a j 0) (getD b j 0) h)
+part-same : (a b : List ℕ) (j : ℕ) → j < length a → j < length b → getD a j 0 ≡ getD b j 0 → sameList (drop j a) (drop j b) ≡ sameList (drop (j + 1) a) (drop (j + 1) b)
+unfolding sameList
+part-same a b j la lb h = rw (drop-at1 a j la, drop-at1 b j lb, eq-eqb (getD a j 0) (getD b j 0) h)
 
 pub parts-end : (a b : List ℕ) (j : ℕ) → length a ≤ j → length b ≤ j → sameList (drop j a) (drop j b) ≡ true
 unfolding sameList
@@ -78,8 +73,30 @@ module _ (P : List ℕ) (o l : ℕ) (h : o + l ≤ length P) where
   pub part-length : length (part P o l) ≡ l
   part-length = length-take-le l (drop o P) (simp length-drop (omega arith))
 
-  pub part-at : (j : ℕ) → j < l → getD (part P o l) j 0 ≡ getD P (o + j) 0
+  part-at : (j : ℕ) → j < l → getD (part P o l) j 0 ≡ getD P (o + j) 0
   part-at j k = getD-take l (drop o P) j 0 k ∙ getD-drop o P j 0
+
+-- two windows of one list, as long as each other
+module _ (T : List ℕ) (p q n : ℕ) (hp : p + n ≤ length T) (hq : q + n ≤ length T) (j x y : ℕ) (h : j < n) (ex : x ≡ p + j) (ey : y ≡ q + j) where
+  at-first : getD (part T p n) j 0 ≡ getD T x 0
+  at-first = part-at T p n hp j h ∙ ap (λ (i : ℕ). getD T i 0) (sym ex)
+
+  at-second : getD (part T q n) j 0 ≡ getD T y 0
+  at-second = part-at T q n hq j h ∙ ap (λ (i : ℕ). getD T i 0) (sym ey)
+
+  pub windows-differ : (getD T x 0 ≡ getD T y 0 → ⊥) → false ≡ sameList (part T p n) (part T q n)
+  windows-differ d = go (sameList (part T p n) (part T q n)) refl
+    where
+      go : (t : Bool) → sameList (part T p n) (part T q n) ≡ t → false ≡ t
+      go true e = absurd (d (sym at-first ∙ ap (λ (l : List ℕ). getD l j 0) (list-equal (part T p n) (part T q n) e) ∙ at-second))
+      go false e = refl
+
+  pub windows-same : (k : ℕ) → k ≡ j + 1 → getD T x 0 ≡ getD T y 0
+      → sameList (drop j (part T p n)) (drop j (part T q n)) ≡ sameList (drop k (part T p n)) (drop k (part T q n))
+  windows-same k e d =
+      let lp = part-length T p n hp in let lq = part-length T q n hq in
+      part-same (part T p n) (part T q n) j (omega arith) (omega arith) (at-first ∙ d ∙ sym at-second)
+      ∙ ap (λ (i : ℕ). sameList (drop i (part T p n)) (drop i (part T q n))) (sym e)
 
 -- ---- row by row
 

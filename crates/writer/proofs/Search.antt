@@ -1,6 +1,6 @@
 -- Searching rows, and that a search of a table's rows is the definition's lookup: one law for any kind of key that is told apart by
 -- two numbers, and then each table as an instance of it.
-use Prim.Native.Nat.{ℕ, suc, _+_, _-_, _<_}
+use Prim.Native.Nat.{ℕ, suc, _+_, _-_, _≤_, _<_}
 use mathlib.Core.Path.{_≡_, refl, sym, ap, _∙_}
 use mathlib.Core.Bool.{Bool, true, false, _&&_}
 use mathlib.Core.List.{List, [], _∷_, map}
@@ -9,7 +9,7 @@ use native.Mathlib.Omega.{arith}
 use native.Mathlib.Decide.{ℕ-discrete}
 use lib.Dec.{eqb}
 use lib.ListN.{getD}
-use borrow.Author.Tests.{eq-eqb, ne-eqb, eqb-true}
+use borrow.Author.Tests.{eq-eqb, eqb-true}
 use Rattle.definition.specs.Choice.{pick}
 use Rattle.definition.specs.Literals.{Literal, sameLiteral}
 use Rattle.definition.specs.Shapes.{Key, sameKey}
@@ -27,23 +27,50 @@ use Rattle.writer.specs.Steps.{FindsType, FindsLiteral, FindsNull}
 
 -- ---- row by row
 
+-- no row under the key has its two numbers at x and y
+abbrev pub Other : ℕ → ℕ → List ℕ → ℕ → ℕ → Type 0
+Other a b T x y = getD T y 0 ≡ b → getD T x 0 ≡ a → ⊥
+
 module _ (a b : ℕ) (T : List ℕ) (p : ℕ) where
   turn : (k m : ℕ) → k ≡ suc m → seekIn a b (rows T p k) ≡ pick (eqb (getD T p 0) a && eqb (getD T (p + 1) 0) b) (some (getD T (p + 2) 0)) (seekIn a b (rows T (p + 3) m))
   unfolding seekIn rows
   turn k m e = ap (λ (j : ℕ). seekIn a b (rows T p j)) e
 
-  pub hit : (k : ℕ) → 0 < k → getD T p 0 ≡ a → getD T (p + 1) 0 ≡ b → seekIn a b (rows T p k) ≡ some (getD T (p + 2) 0)
-  hit k h e f = turn k (k - 1) (omega arith) ∙ rw (eq-eqb _ _ e, eq-eqb _ _ f)
+  pub hit : (k x y z : ℕ) → 0 < k → x ≡ p → y ≡ p + 1 → z ≡ p + 2 → getD T y 0 ≡ b → getD T x 0 ≡ a → seekIn a b (rows T p k) ≡ some (getD T z 0)
+  hit k x y z h ex ey ez f e =
+      let e' : getD T p 0 ≡ a = ap (λ (j : ℕ). getD T j 0) (sym ex) ∙ e in
+      let f' : getD T (p + 1) 0 ≡ b = ap (λ (j : ℕ). getD T j 0) (sym ey) ∙ f in
+      turn k (k - 1) (omega arith) ∙ rw (eq-eqb _ _ e', eq-eqb _ _ f') (ap (λ (j : ℕ). some (getD T j 0)) (sym ez))
 
-  pub miss-first : (k m : ℕ) → k ≡ suc m → (getD T p 0 ≡ a → ⊥) → seekIn a b (rows T p k) ≡ seekIn a b (rows T (p + 3) m)
-  miss-first k m h e = turn k m h ∙ rw (ne-eqb _ _ e)
-
-  pub miss-second : (k m : ℕ) → k ≡ suc m → getD T p 0 ≡ a → (getD T (p + 1) 0 ≡ b → ⊥) → seekIn a b (rows T p k) ≡ seekIn a b (rows T (p + 3) m)
-  miss-second k m h e f = turn k m h ∙ rw (eq-eqb _ _ e, ne-eqb _ _ f)
+  pub miss : (k m x y z : ℕ) → k ≡ suc m → x ≡ p → y ≡ p + 1 → z ≡ p + 3 → Other a b T x y → seekIn a b (rows T p k) ≡ seekIn a b (rows T z m)
+  miss k m x y z h ex ey ez d =
+      turn k m h ∙ go (eqb (getD T p 0) a) (eqb (getD T (p + 1) 0) b) refl refl ∙ ap (λ (j : ℕ). seekIn a b (rows T j m)) (sym ez)
+    where
+      go : (s t : Bool) → eqb (getD T p 0) a ≡ s → eqb (getD T (p + 1) 0) b ≡ t
+          → pick (s && t) (some (getD T (p + 2) 0)) (seekIn a b (rows T (p + 3) m)) ≡ seekIn a b (rows T (p + 3) m)
+      go true true e f = absurd (d (ap (λ (j : ℕ). getD T j 0) ey ∙ eqb-true _ _ f) (ap (λ (j : ℕ). getD T j 0) ex ∙ eqb-true _ _ e))
+      go true false e f = refl
+      go false t e f = refl
 
   pub ended : (k : ℕ) → k ≡ 0 → seekIn a b (rows T p k) ≡ none
   unfolding seekIn rows
   ended k e = ap (λ (j : ℕ). seekIn a b (rows T p j)) e
+
+-- four rows of k
+module _ (a b : ℕ) (T : List ℕ) (p k : ℕ) (h : 4 ≤ k) (first : Other a b T p (p + 1)) where
+  pub miss1 : seekIn a b (rows T p k) ≡ seekIn a b (rows T (p + 3) (k - 1))
+  miss1 = miss a b T p k (k - 1) p (p + 1) (p + 3) (omega arith) refl refl refl first
+
+  module _ (second : Other a b T (p + 3) (p + 4)) where
+    pub miss2 : seekIn a b (rows T p k) ≡ seekIn a b (rows T (p + 6) (k - 2))
+    miss2 = miss1 ∙ miss a b T (p + 3) (k - 1) (k - 2) (p + 3) (p + 4) (p + 6) (omega arith) refl (omega arith) (omega arith) second
+
+    module _ (third : Other a b T (p + 6) (p + 7)) where
+      pub miss3 : seekIn a b (rows T p k) ≡ seekIn a b (rows T (p + 9) (k - 3))
+      miss3 = miss2 ∙ miss a b T (p + 6) (k - 2) (k - 3) (p + 6) (p + 7) (p + 9) (omega arith) refl (omega arith) (omega arith) third
+
+      pub miss4 : Other a b T (p + 9) (p + 10) → seekIn a b (rows T p k) ≡ seekIn a b (rows T (p + 12) (k - 4))
+      miss4 fourth = miss3 ∙ miss a b T (p + 9) (k - 3) (k - 4) (p + 9) (p + 10) (p + 12) (omega arith) refl (omega arith) (omega arith) fourth
 
 -- ---- a table's rows
 

@@ -23,7 +23,7 @@ use Rattle.writer.specs.Rows.{part, isListed}
 use Rattle.writer.specs.Regions.{sectionAt, Section, names, annotations, declarations, used, more, addTo}
 use Rattle.writer.specs.Cost.{capabilitiesOf, declaring, wordsIn}
 use Rattle.writer.specs.Held.{Sections, tablesOf, sectionsOf, sectionsIn, wordsOf, Held, RoomFor}
-use Rattle.writer.specs.Steps.{Spelt, Adds, Puts as PutsOne, Listed, Pending, Committed}
+use Rattle.writer.specs.Steps.{Spelt, Adds, Puts as PutsOne, Listed, withCapabilities, CountListed, Pending, Committed}
 use Rattle.writer.proofs.Regions.{part-left, part-right, part-more, splice-splice}
 
 map-append : (xs ys : List ℕ) → map low (xs ++ ys) ≡ map low xs ++ map low ys
@@ -40,9 +40,6 @@ pub words-snoc : (is : List Instruction) (i : Instruction) → wordsOf is ++ map
 words-snoc is i = sym (map-append (allWords is) (words i)) ∙ ap (map low) (all-snoc is i)
 
 -- ---- an instruction goes behind those in its section
-
-abbrev pub moreCapabilities : Writer → ℕ → Writer
-moreCapabilities w n = record { records = w .records; bytes = w .bytes; idgen = w .idgen; types = w .types; literals = w .literals; nulls = w .nulls; values = w .values; composites = w .composites; parts = w .parts; capabilities = w .capabilities + n; names = w .names; annotations = w .annotations; declarations = w .declarations }
 
 -- words behind those of a section
 abbrev append : Section → List ℕ → Sections → Sections
@@ -164,7 +161,7 @@ new c xs e = ap (λ (n : ℕ). listOne n c xs) (count xs e)
 
 module _ (w : Writer) (S : List ℕ) (c : ℕ) where
   -- nothing to list
-  pub lists-none : c ≡ 0 → Listed (asList c) w S w S
+  lists-none : c ≡ 0 → Listed (asList c) w S w S
   unfolding listed
   lists-none e = rw e (record { grown = omega arith; held = λ T s h. h })
 
@@ -172,7 +169,7 @@ module _ (w : Writer) (S : List ℕ) (c : ℕ) where
     one : asList c ≡ c ∷ []
     one = rw (ne-eqb c 0 n)
 
-    pub lists-old : isListed c (part S 0 (w .capabilities)) ≡ true → Listed (asList c) w S w S
+    lists-old : isListed c (part S 0 (w .capabilities)) ≡ true → Listed (asList c) w S w S
     unfolding listed
     lists-old e = rw one (record {
       grown = omega arith;
@@ -187,7 +184,7 @@ module _ (w : Writer) (S : List ℕ) (c : ℕ) where
           };
     })
 
-    pub lists-new : isListed c (part S 0 (w .capabilities)) ≡ false → RoomFor (capabilitiesOf 1) w S → Listed (asList c) w S (moreCapabilities w 1) (splice S (w .capabilities) (c ∷ []))
+    lists-new : isListed c (part S 0 (w .capabilities)) ≡ false → RoomFor (capabilitiesOf 1) w S → Listed (asList c) w S (withCapabilities w (w .capabilities + 1)) (splice S (w .capabilities) (c ∷ []))
     unfolding listed
     lists-new e room = rw one (record {
       grown = omega arith;
@@ -195,7 +192,7 @@ module _ (w : Writer) (S : List ℕ) (c : ℕ) where
           let p = w .capabilities in
           let q : s .capabilities ++ c ∷ [] ≡ listOne (occurrences c (s .capabilities)) c (s .capabilities) =
           sym (new c (s .capabilities) (sym (ap (λ (t : Sections). isListed c (t .capabilities)) (h .sections)) ∙ e)) in
-          let f : sectionsOf (moreCapabilities w 1) (splice S p (c ∷ [])) ≡ record { capabilities = sectionsOf w S .capabilities ++ c ∷ []; names = sectionsOf w S .names; annotations = sectionsOf w S .annotations; declarations = sectionsOf w S .declarations } = λ i. record {
+          let f : sectionsOf (withCapabilities w (w .capabilities + 1)) (splice S p (c ∷ [])) ≡ record { capabilities = sectionsOf w S .capabilities ++ c ∷ []; names = sectionsOf w S .names; annotations = sectionsOf w S .annotations; declarations = sectionsOf w S .declarations } = λ i. record {
             capabilities = part-more S 0 p p (c ∷ []) (omega arith) (omega arith) i;
             names = part-right S p (c ∷ []) (omega arith) (sectionAt names w) (w .names) (omega arith) i;
             annotations = part-right S p (c ∷ []) (omega arith) (sectionAt annotations w) (w .annotations) (omega arith) i;
@@ -209,6 +206,26 @@ module _ (w : Writer) (S : List ℕ) (c : ℕ) where
                 ∙ (λ i. record { capabilities = q i; names = sectionsIn s .names; annotations = sectionsIn s .annotations; declarations = sectionsIn s .declarations });
           };
     })
+
+-- the same by their count
+module _ (S : List ℕ) (n c : ℕ) where
+  pub counts-none : c ≡ 0 → CountListed (asList c) n S n S
+  counts-none z = record { few = omega arith; lists = λ w e room. subst (λ (k : ℕ). Listed (asList c) w S (withCapabilities w k) S) e (lists-none w S c z) }
+
+  module _ (z : c ≡ 0 → ⊥) where
+    pub counts-old : isListed c (part S 0 n) ≡ true → CountListed (asList c) n S n S
+    counts-old l = record {
+      few = omega arith;
+      lists = λ w e room. subst (λ (k : ℕ). Listed (asList c) w S (withCapabilities w k) S) e (lists-old w S c z (ap (λ (k : ℕ). isListed c (part S 0 k)) e ∙ l));
+    }
+
+    pub counts-new : isListed c (part S 0 n) ≡ false → CountListed (asList c) n S (n + 1) (splice S n (c ∷ []))
+    counts-new l = record {
+      few = omega arith;
+      lists = λ w e room.
+          subst (λ (k : ℕ). Listed (asList c) w S (withCapabilities w (k + 1)) (splice S k (c ∷ []))) e
+          (lists-new w S c z (ap (λ (k : ℕ). isListed c (part S 0 k)) e ∙ l) room);
+    }
 
 -- ---- an instruction word by word
 

@@ -23,7 +23,7 @@ use Rattle.spirv.specs.Ids.{low}
 use Rattle.writer.specs.Rows.{part, soughtOf}
 use Rattle.writer.specs.Regions.{valuesAt, partsAt, sectionAt, Section, declarations, addTo}
 use Rattle.writer.specs.Cost.{Cost, anId, aType, aLiteral, aNull, aValue, aComposite, capabilitiesOf, declaring, wordsIn}
-use Rattle.writer.specs.Held.{kindCode, SmallKind, Held, Grown}
+use Rattle.writer.specs.Held.{kindCode, SmallKind, Held, RoomFor, Grown}
 
 -- nothing is in use
 abbrev pub fresh : ℕ → ℕ → ℕ → Writer
@@ -173,3 +173,12 @@ listing cs s = record { last = s .last; types = s .types; constants = s .constan
 pub record Listed (cs : List ℕ) (w : Writer) (S : List ℕ) (v : Writer) (S′ : List ℕ) : Type 0 where
   pub grown : Grown (capabilitiesOf 1) w v
   pub held : (T : List ℕ) (s : State) → Held w T S s → Held v T S′ (listing cs s)
+
+-- m capabilities in use
+abbrev pub withCapabilities : Writer → ℕ → Writer
+withCapabilities w m = record { records = w .records; bytes = w .bytes; idgen = w .idgen; types = w .types; literals = w .literals; nulls = w .nulls; values = w .values; composites = w .composites; parts = w .parts; capabilities = m; names = w .names; annotations = w .annotations; declarations = w .declarations }
+
+-- the same by their count alone: there were n, and there are m then
+pub record CountListed (cs : List ℕ) (n : ℕ) (S : List ℕ) (m : ℕ) (S′ : List ℕ) : Type 0 where
+  pub few : m ≤ n + 1
+  pub lists : (w : Writer) → w .capabilities ≡ n → RoomFor (capabilitiesOf 1) w S → Listed cs w S (withCapabilities w m) S′

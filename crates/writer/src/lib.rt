@@ -13,11 +13,11 @@ ghost use Rattle.definition.specs.State.{empty};
 ghost use Rattle.definition.specs.Instructions.{constantComposite, name, memberName};
 ghost use Rattle.spirv.specs.Sections.{splice};
 ghost use Rattle.lookup.specs.Local.{asList};
-ghost use Rattle.writer.specs.Rows.{rows, seekIn, seekParts, soughtOf, part, isListed};
+ghost use Rattle.writer.specs.Rows.{rows, seekIn, sameList, seekParts, soughtOf, part, isListed};
 ghost use Rattle.writer.specs.Regions.{partsAt, names, annotations, declarations};
-ghost use Rattle.writer.specs.Cost.{nothing, aType, aLiteral, aNull, aValue, aComposite, staging, capabilitiesOf, naming, annotating, declaring};
+ghost use Rattle.writer.specs.Cost.{nothing, aType, aLiteral, aNull, aValue, aComposite, staging, naming, annotating, declaring};
 ghost use Rattle.writer.specs.Held.{Held, RoomIn, RoomFor};
-ghost use Rattle.writer.specs.Steps.{fresh, Took, FindsType, FindsLiteral, FindsNull, FindsComposite, EnteredType, EnteredLiteral, EnteredNull, EnteredComposite, EnteredValue, ValueAt, Puts, Listed, Pending, Committed};
+ghost use Rattle.writer.specs.Steps.{fresh, Took, FindsType, FindsLiteral, FindsNull, FindsComposite, EnteredType, EnteredLiteral, EnteredNull, EnteredComposite, EnteredValue, ValueAt, Puts, CountListed, Pending, Committed};
 
 // Where a table starts, in multiples of `records`: a row is three numbers, and a record adds four types at most and one row
 // to each other table. Behind the tables stand the ids of composites' parts.
@@ -112,21 +112,45 @@ pub fn take_id(mut w: Writer) -> Taken
 
 // ---- tables: searched in order of entry
 
-// The id of the first of n rows under a key.
+// The id of the first of n rows under a key; the second number first, in which rows mostly differ.
 fn seek(tables: &[u64], start: usize, n: usize, a: u64, b: u64) -> Sought
     requires { ⌜ start + 3 * n ≤ length (now tables) ⌝ }
     ensures { λ r. ⌜ soughtOf r ≡ seekIn a b (rows (now (tables .entry)) start n) ⌝ }
 {
-    let mut i = 0;
     let mut p = start;
-    while i < n {
-        if tables[p] == a {
-            if tables[p + 1] == b {
+    let mut left = n;
+    'fours: while 4 <= left {
+        if tables[p + 1] == b {
+            if tables[p] == a {
                 return Sought::Id(tables[p + 2]);
             }
         }
-        i += 1;
+        if tables[p + 4] == b {
+            if tables[p + 3] == a {
+                return Sought::Id(tables[p + 5]);
+            }
+        }
+        if tables[p + 7] == b {
+            if tables[p + 6] == a {
+                return Sought::Id(tables[p + 8]);
+            }
+        }
+        if tables[p + 10] == b {
+            if tables[p + 9] == a {
+                return Sought::Id(tables[p + 11]);
+            }
+        }
+        p += 12;
+        left -= 4;
+    }
+    while 0 < left {
+        if tables[p + 1] == b {
+            if tables[p] == a {
+                return Sought::Id(tables[p + 2]);
+            }
+        }
         p += 3;
+        left -= 1;
     }
     Sought::Absent
 }
@@ -150,6 +174,42 @@ pub fn find_null(tables: &[u64], w: Writer, ty: u64) -> Sought
     ensures { λ r. ⌜ FindsNull ty w (now (tables .entry)) r ⌝ }
 {
     seek(tables, NULLS * w.records, w.nulls, ty, 0)
+}
+
+// Whether the n numbers from p on are those from q on: the last first, in which composites that begin alike often differ.
+fn same_parts(tables: &[u64], p: usize, q: usize, n: usize) -> bool
+    requires { ⌜ (p + n ≤ length (now tables)) × (q + n ≤ length (now tables)) ⌝ }
+    ensures { λ r. ⌜ r ≡ sameList (part (now (tables .entry)) p n) (part (now (tables .entry)) q n) ⌝ }
+{
+    if n == 0 {
+        return true;
+    }
+    if tables[p + (n - 1)] != tables[q + (n - 1)] {
+        return false;
+    }
+    let mut j = 0;
+    'fours: while 4 <= n - j {
+        if tables[p + j] != tables[q + j] {
+            return false;
+        }
+        if tables[p + j + 1] != tables[q + j + 1] {
+            return false;
+        }
+        if tables[p + j + 2] != tables[q + j + 2] {
+            return false;
+        }
+        if tables[p + j + 3] != tables[q + j + 3] {
+            return false;
+        }
+        j += 4;
+    }
+    while j < n {
+        if tables[p + j] != tables[q + j] {
+            return false;
+        }
+        j += 1;
+    }
+    true
 }
 
 // The id of the first of n rows under a key and with the m parts that stand at q. A row's second number is how many parts
@@ -185,14 +245,9 @@ fn seek_parts(
         if l != m {
             continue 'entries;
         }
-        let mut j = 0;
-        while j < l {
-            if tables[f + j] != tables[q + j] {
-                continue 'entries;
-            }
-            j += 1;
+        if same_parts(tables, f, q, l) {
+            return Sought::Id(tables[e + 2]);
         }
-        return Sought::Id(tables[e + 2]);
     }
     Sought::Absent
 }
@@ -403,19 +458,17 @@ fn is_listed(sections: &[u32], n: usize, c: u32) -> bool
     false
 }
 
-// Lists a capability at its first use; 0 is none.
-pub fn list_capability(sections: &mut [u32], mut w: Writer, c: u32) -> Writer
-    requires { ⌜ RoomFor (capabilitiesOf 1) w (now sections) ⌝ }
-    ensures { λ r. ⌜ Listed (asList c) w (now (sections .entry)) r (now (sections .exit)) ⌝ }
+// Lists a capability behind n others at its first use; 0 is none. What comes back is how many are listed then.
+pub fn listed(sections: &mut [u32], n: usize, c: u32) -> usize
+    requires { ⌜ n < length (now sections) ⌝ }
+    ensures { λ r. ⌜ CountListed (asList c) n (now (sections .entry)) r (now (sections .exit)) ⌝ }
 {
     if c == 0 {
-        return w;
+        return n;
     }
-    let n = w.capabilities;
     if is_listed(sections, n, c) {
-        return w;
+        return n;
     }
     put_word(sections, n, c);
-    w.capabilities = n + 1;
-    w
+    n + 1
 }

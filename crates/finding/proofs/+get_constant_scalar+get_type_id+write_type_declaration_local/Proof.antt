@@ -1,13 +1,13 @@
 -- The cycle: each function's measure is three times the nesting rank of its shape and a number below three, so that it falls at each
 -- call. Room is handed down by what a shape names costing less than the shape (Prices), and each way out is one law of Ways.
-use Rattle.lookup.specs.Packed.{Small}
+use Rattle.lookup.specs.Packed.{packed, Small}
 use Rattle.lookup.specs.declared.LookupType.{LookupType}
 use Rattle.writer.specs.Held.{Room, Grown}
 use Rattle.writer.specs.Cost.{Cost}
 use Rattle.definition.specs.Finding.{literalKind}
 use Rattle.definition.specs.Shapes.{Key, scalar, shape}
 use Prim.Native.Nat.{_+_, _*_}
-use mathlib.Core.Path.{sym, ap, _∙_, subst}
+use mathlib.Core.Path.{_≡_, sym, ap, _∙_, subst}
 use native.Mathlib.Omega.{arith}
 use Rattle.definition.specs.Shapes.{rank, rankOf}
 use Rattle.literals.specs.Forms.{literalOf}
@@ -34,8 +34,9 @@ use Rattle.finding.proofs.write_literal.Reads as write-literal-reads
 use Rattle.literals.proofs.bits.Reads as bits-reads
 use Rattle.literals.proofs.form.Reads as form-reads
 use Rattle.lookup.proofs.inner_of.Reads as inner-of-reads
-use Rattle.lookup.proofs.key.Reads as key-reads
+use Rattle.lookup.proofs.handle_key.Reads as handle-key-reads
 use Rattle.lookup.proofs.length_of.Reads as length-of-reads
+use Rattle.lookup.proofs.local_key.Reads as local-key-reads
 use Rattle.writer.proofs.enter_literal.Reads as enter-literal-reads
 use Rattle.writer.proofs.enter_type.Reads as enter-type-reads
 use Rattle.writer.proofs.find_literal.Reads as find-literal-reads
@@ -97,7 +98,7 @@ abbrev get-constant-scalar-claims : ℕ → get-constant-scalar-lts.Claims
 get-constant-scalar-claims t = (form-reads.Asked, form-reads.Learnt, bits-reads.Asked, bits-reads.Learnt, find-literal-reads.Asked, find-literal-reads.Learnt, take-id-reads.Asked, take-id-reads.Learnt, literal-type-reads.Asked, literal-type-reads.Learnt, get-type-id-below t, get-type-id.Post, write-literal-reads.Asked, write-literal-reads.Learnt, enter-literal-reads.Asked, enter-literal-reads.Learnt)
 
 abbrev get-type-id-claims : ℕ → get-type-id-lts.Claims
-get-type-id-claims t = (key-reads.Asked, key-reads.Learnt, find-type-reads.Asked, find-type-reads.Learnt, take-id-reads.Asked, take-id-reads.Learnt, enter-type-reads.Asked, enter-type-reads.Learnt, write-type-declaration-local-below t, write-type-declaration-local.Post)
+get-type-id-claims t = (handle-key-reads.Asked, handle-key-reads.Learnt, find-type-reads.Asked, find-type-reads.Learnt, local-key-reads.Asked, local-key-reads.Learnt, take-id-reads.Asked, take-id-reads.Learnt, enter-type-reads.Asked, enter-type-reads.Learnt, write-type-declaration-local-below t, write-type-declaration-local.Post)
 
 abbrev write-type-declaration-local-claims : ℕ → write-type-declaration-local-lts.Claims
 write-type-declaration-local-claims t = (inner-of-reads.Asked, inner-of-reads.Learnt, put-declaration-reads.Asked, put-declaration-reads.Learnt, get-type-id-below t, get-type-id.Post, length-of-reads.Asked, length-of-reads.Learnt, get-constant-scalar-below t, get-constant-scalar.Post)
@@ -136,30 +137,33 @@ get-constant-scalar-returns-2 t c = let a = c .before .before .before .before .b
     literal-new (literalOf (a .l)) (c .before .before .before .before .before .before .before .before .before .before .before .before .before .before .before .before .before .before .before .before .before .before .form .result) (c .before .before .before .before .before .before .before .before .before .before .before .before .before .before .before .before .before .before .before .before .before .bits .result) (c .before .before .before .before .before .before .before .before .before .before .before .before .before .before .before .before .before .before .before .before .before .before .form .ensures) (c .before .before .before .before .before .before .before .before .before .before .before .before .before .before .before .before .before .before .before .before .before .bits .ensures) (a .w) (a .tables .now) (a .sections .now) (x .result) (x .ensures) (c .before .before .before .before .before .before .before .before .before .before .before .before .before .before .before .before .before .enum-told .given .1) (m .result) (m .ensures) (keyOf (c .before .before .before .before .before .before .before .before .before .before .before .before .before .literal-type .result)) (c .before .before .before .before .before .before .before .before .before .before .before .before .before .literal-type .ensures) (f .result) (f .last .0) (f .last .1 .0) (f .ensures) (d .result) (d .last .0) (d .ensures) (u .result) (u .last .0) (u .ensures)
 
 get-type-id-take-id-requires : (t : ℕ) → get-type-id-lts.Need-take-id-requires (get-type-id-claims t) (get-type-id-at t) get-type-id.Post
-get-type-id-take-id-requires t c κs = let r = subst (λ (t : LookupType). Room (costOf (keyOf t)) (c .before .before .before .before .before .before .before .before .before .before .args .w) (c .before .before .before .before .before .before .before .before .before .before .args .tables .now) (c .before .before .before .before .before .before .before .before .before .before .args .sections .now)) (c .before .t .given .1) (c .before .before .before .before .before .before .before .before .before .before .pre .1) in
+get-type-id-take-id-requires t c κs = let a = c .before .before .before .before .before .before .before .before .before .before .args in let e = c .before .before .before .before .before .before .t2 .given .1 in let r = subst (λ (t : LookupType). Room (costOf (keyOf t)) (a .w) (a .tables .now) (a .sections .now)) e (c .before .before .before .before .before .before .before .before .before .before .pre .1) in
     omega (arith, r .rows)
 
 get-type-id-enter-type-requires : (t : ℕ) → get-type-id-lts.Need-enter-type-requires (get-type-id-claims t) (get-type-id-at t) get-type-id.Post
-get-type-id-enter-type-requires t c κs = let r = subst (λ (t : LookupType). Room (costOf (keyOf t)) (c .before .before .before .before .before .before .before .before .before .before .before .before .args .w) (c .before .before .before .before .before .before .before .before .before .before .before .before .args .tables .now) (c .before .before .before .before .before .before .before .before .before .before .before .before .args .sections .now)) (c .before .before .before .t .given .1) (c .before .before .before .before .before .before .before .before .before .before .before .before .pre .1) in
+get-type-id-enter-type-requires t c κs = let a = c .before .before .before .before .before .before .before .before .before .before .before .before .args in let e = c .before .before .before .before .before .before .before .before .t2 .given .1 in let r = subst (λ (t : LookupType). Room (costOf (keyOf t)) (a .w) (a .tables .now) (a .sections .now)) e (c .before .before .before .before .before .before .before .before .before .before .before .before .pre .1) in
     omega (arith, c .before .take-id .ensures .grown, r .rows)
 
 get-type-id-write-type-declaration-local-requires :
     (t : ℕ) → get-type-id-lts.Need-write-type-declaration-local-requires (get-type-id-claims t) (get-type-id-at t) get-type-id.Post
-get-type-id-write-type-declaration-local-requires t c κs = let e = c .before .before .before .before .before .before .before .before .t .given .1 in
-    let r = subst (λ (t : LookupType). Room (costOf (keyOf t)) (c .before .before .before .before .before .before .before .before .before .before .before .before .before .before .before .before .before .args .w) (c .before .before .before .before .before .before .before .before .before .before .before .before .before .before .before .before .before .args .tables .now) (c .before .before .before .before .before .before .before .before .before .before .before .before .before .before .before .before .before .args .sections .now)) e (c .before .before .before .before .before .before .before .before .before .before .before .before .before .before .before .before .before .pre .1) in
-    (omega (arith, c .before .before .before .before .before .before .before .before .before .before .before .before .before .before .before .before .before .pre .0, ap (λ (t : LookupType). rank (keyOf t)) e), (subst (λ (t : LookupType). Small (keyOf t)) e (c .before .before .before .before .before .before .before .before .before .before .before .before .before .before .key .ensures .1), omega (arith, c .before .before .before .before .before .before .take-id .ensures .grown, c .before .before .before .before .enter-type .ensures .grown, c .before .before .before .before .enter-type .kept, r .rows, r .words, c .before .before .before .before .before .before .before .before .before .before .before .before .before .before .before .before .before .good)))
+get-type-id-write-type-declaration-local-requires t c κs = let a = c .before .before .before .before .before .before .before .before .before .before .before .before .before .before .before .before .before .args in let e = c .before .before .before .before .before .before .before .before .before .before .before .before .before .t2 .given .1 in let r = subst (λ (t : LookupType). Room (costOf (keyOf t)) (a .w) (a .tables .now) (a .sections .now)) e (c .before .before .before .before .before .before .before .before .before .before .before .before .before .before .before .before .before .pre .1) in
+    (omega (arith, c .before .before .before .before .before .before .before .before .before .before .before .before .before .before .before .before .before .pre .0, ap (λ (t : LookupType). rank (keyOf t)) e), (c .before .before .before .before .before .before .before .before .before .before .before .local-key .ensures .1, omega (arith, c .before .before .before .before .before .before .take-id .ensures .grown, c .before .before .before .before .enter-type .ensures .grown, c .before .before .before .before .enter-type .kept, r .rows, r .words, c .before .before .before .before .before .before .before .before .before .before .before .before .before .before .before .before .before .good)))
 
 get-type-id-returns : (t : ℕ) → get-type-id-lts.Need-returns (get-type-id-claims t) (get-type-id-at t) get-type-id.Post
-get-type-id-returns t c = let a = c .before .before .before .before .before .before .before .before .args in let x = c .before .before .before .find-type in
-    type-old (keyOf (a .t)) (c .before .before .before .before .before .key .ensures .1) (c .before .before .before .before .before .key .result) (c .before .before .before .before .before .key .ensures .0) (a .w) (a .tables .now) (a .sections .now) (x .result) (x .ensures) (c .before .id .given .0 .0) (c .before .id .given .1)
+get-type-id-returns t c = let a = c .before .before .before .before .before .before .before .before .before .before .before .args in let e = c .before .before .before .before .before .before .before .t .given .1 in let x = c .before .before .before .find-type in let k = subst (λ (t : LookupType). (c .before .before .before .before .handle-key .result ≡ packed (keyOf t)) × Small (keyOf t)) (sym e) (c .before .before .before .before .handle-key .ensures) in
+    type-old (keyOf (a .t)) (k .1) (c .before .before .before .before .handle-key .result) (k .0) (a .w) (a .tables .now) (a .sections .now) (x .result) (x .ensures) (c .before .id .given .0 .0) (c .before .id .given .1)
 
 get-type-id-returns-2 : (t : ℕ) → get-type-id-lts.Need-returns-2 (get-type-id-claims t) (get-type-id-at t) get-type-id.Post
-get-type-id-returns-2 t c = let a = c .before .before .before .before .before .before .before .before .before .args in let x = c .before .before .before .before .find-type in
-    type-absent (keyOf (a .t)) (c .before .before .before .before .before .before .key .ensures .1) (c .before .before .before .before .before .before .key .result) (c .before .before .before .before .before .before .key .ensures .0) (a .w) (a .tables .now) (a .sections .now) (x .result) (x .ensures) (c .before .before .enum-told .given .1) (c .enum-told2 .given .0 .0) (ap keyOf (c .enum-told2 .given .1))
+get-type-id-returns-2 t c = let a = c .before .before .before .before .before .before .before .before .before .before .args in let e = c .before .before .before .before .before .before .t .given .1 in let x = c .before .before .find-type in let k = subst (λ (t : LookupType). (c .before .before .before .handle-key .result ≡ packed (keyOf t)) × Small (keyOf t)) (sym e) (c .before .before .before .handle-key .ensures) in
+    type-absent (keyOf (a .t)) (k .1) (c .before .before .before .handle-key .result) (k .0) (a .w) (a .tables .now) (a .sections .now) (x .result) (x .ensures) (c .enum-told .given .1) (c .before .before .before .before .before .before .t .given .0 .0) (ap keyOf e)
 
 get-type-id-returns-3 : (t : ℕ) → get-type-id-lts.Need-returns-3 (get-type-id-claims t) (get-type-id-at t) get-type-id.Post
-get-type-id-returns-3 t c = let a = c .before .before .before .before .before .before .before .before .before .before .before .before .before .before .before .before .before .before .before .before .before .before .args in let x = c .before .before .before .before .before .before .before .before .before .before .before .before .before .before .before .before .before .find-type in let n = c .before .before .before .before .before .before .before .before .before .before .before .take-id in let v = c .before .before .before .before .before .before .before .before .before .enter-type in let u = c .before .before .before .before .write-type-declaration-local in
-    type-new (keyOf (a .t)) (c .before .before .before .before .before .before .before .before .before .before .before .before .before .before .before .before .before .before .before .key .ensures .1) (c .before .before .before .before .before .before .before .before .before .before .before .before .before .before .before .before .before .before .before .key .result) (c .before .before .before .before .before .before .before .before .before .before .before .before .before .before .before .before .before .before .before .key .ensures .0) (a .w) (a .tables .now) (a .sections .now) (x .result) (x .ensures) (c .before .before .before .before .before .before .before .before .before .before .before .before .before .before .before .enum-told .given .1) (shapeOf (c .before .before .before .before .before .before .before .before .before .before .before .before .before .t .given .0 .0)) (ap keyOf (c .before .before .before .before .before .before .before .before .before .before .before .before .before .t .given .1)) (n .result) (n .ensures) (v .result) (v .last .0) (v .ensures) (u .result) (u .last .0) (u .last .1 .0) (u .ensures)
+get-type-id-returns-3 t c = let a = c .before .before .before .before .before .before .before .before .before .before .before .args in let e = c .before .before .before .before .before .before .before .t2 .given .1 in let x = c .before .before .before .find-type2 in let k = subst (λ (t : LookupType). (c .before .before .before .before .before .local-key .result ≡ packed (keyOf t)) × Small (keyOf t)) (sym e) (c .before .before .before .before .before .local-key .ensures) in
+    type-old (keyOf (a .t)) (k .1) (c .before .before .before .before .before .local-key .result) (k .0) (a .w) (a .tables .now) (a .sections .now) (x .result) (x .ensures) (c .before .id2 .given .0 .0) (c .before .id2 .given .1)
+
+get-type-id-returns-4 : (t : ℕ) → get-type-id-lts.Need-returns-4 (get-type-id-claims t) (get-type-id-at t) get-type-id.Post
+get-type-id-returns-4 t c = let a = c .before .before .before .before .before .before .before .before .before .before .before .before .before .before .before .before .before .before .before .before .before .before .args in let e = c .before .before .before .before .before .before .before .before .before .before .before .before .before .before .before .before .before .before .t2 .given .1 in let x = c .before .before .before .before .before .before .before .before .before .before .before .before .before .before .find-type2 in let n = c .before .before .before .before .before .before .before .before .before .before .before .take-id in let v = c .before .before .before .before .before .before .before .before .before .enter-type in let u = c .before .before .before .before .write-type-declaration-local in let k = subst (λ (t : LookupType). (c .before .before .before .before .before .before .before .before .before .before .before .before .before .before .before .before .local-key .result ≡ packed (keyOf t)) × Small (keyOf t)) (sym e) (c .before .before .before .before .before .before .before .before .before .before .before .before .before .before .before .before .local-key .ensures) in
+    type-new (keyOf (a .t)) (k .1) (c .before .before .before .before .before .before .before .before .before .before .before .before .before .before .before .before .local-key .result) (k .0) (a .w) (a .tables .now) (a .sections .now) (x .result) (x .ensures) (c .before .before .before .before .before .before .before .before .before .before .before .before .enum-told2 .given .1) (shapeOf (c .before .before .before .before .before .before .before .before .before .before .before .before .before .before .before .before .before .before .t2 .given .0 .0)) (ap keyOf e) (n .result) (n .ensures) (v .result) (v .last .0) (v .ensures) (u .result) (u .last .0) (u .last .1 .0) (u .ensures)
 
 write-type-declaration-local-inner-of-requires :
     (t : ℕ) → write-type-declaration-local-lts.Need-inner-of-requires (write-type-declaration-local-claims t) (write-type-declaration-local-at t) write-type-declaration-local.Post
@@ -262,11 +266,12 @@ pub +get-constant-scalar+get-type-id+write-type-declaration-local-spec : {M : Ty
     (get-constant-scalar-enter-literal-requires t) (λ c. search needs) (get-constant-scalar-returns t) (λ c. search needs)
     (λ c. search needs) (get-constant-scalar-returns-2 t)) (λ t. get-type-id-lts.spec (get-type-id-claims t) (get-type-id-at t)
     get-type-id.Post
-    (λ c κs. search needs) (λ c κs. search needs) (λ c. search needs) (λ c. search needs) (λ c. search needs) (λ c. search needs)
-    (get-type-id-take-id-requires t)
-    (get-type-id-enter-type-requires t)
+    (λ c. search needs) (λ c κs. search needs) (λ c κs. search needs) (λ c. search needs) (λ c. search needs)
+    (λ c. search needs) (λ c κs. search needs) (λ c κs. search needs) (λ c. search needs) (λ c. search needs)
+    (get-type-id-take-id-requires t) (get-type-id-enter-type-requires t)
     (get-type-id-write-type-declaration-local-requires t) (λ c. search needs) (get-type-id-returns t) (λ c. search needs)
-    (get-type-id-returns-2 t) (λ c. search needs) (λ c. search needs) (get-type-id-returns-3 t))
+    (get-type-id-returns-2 t) (λ c. search needs) (get-type-id-returns-3 t) (λ c. search needs) (λ c. search needs)
+    (get-type-id-returns-4 t))
     λ t. write-type-declaration-local-lts.spec (write-type-declaration-local-claims t)
     (write-type-declaration-local-at t)
     write-type-declaration-local.Post

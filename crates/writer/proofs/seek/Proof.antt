@@ -1,46 +1,77 @@
--- The invariant: what is found among all the rows is what is found among those that are left.
-use Rattle.writer.proofs.Search.{hit, miss-first, miss-second, ended}
+-- The invariant of both loops: what is found among all the rows is what is found among those that are left.
+use Rattle.writer.proofs.Search.{hit, miss, miss1, miss2, miss3, miss4, ended}
 use Rattle.writer.specs.Rows.{rows, seekIn}
-use Prim.Native.Nat.{ℕ, _+_, _*_, _-_, _≤_}
+use Prim.Native.Nat.{_+_, _*_, _-_}
 use mathlib.Core.Logic.{⊎-elim}
-use mathlib.Core.Path.{_≡_, sym, ap, _∙_}
+use mathlib.Core.Path.{_≡_, refl, sym, _∙_}
 use native.Mathlib.Omega.{arith}
 use borrow.Author.Needs.{needs}
 use Rattle.writer.proofs.seek.Statement.{statement}
 use Rattle.writer.proofs.seek.Tie as tie
 
+abbrev Inv-fours : tie.InvT-fours
+Inv-fours tables start n a b p₀ left₀ p left = (p + 3 * left ≡ start + 3 * n) × (seekIn a b (rows tables start n) ≡ seekIn a b (rows tables p left))
+
+abbrev μ-fours : tie.MeasureT-fours
+μ-fours tables start n a b p₀ left₀ p left = left
+
 abbrev Inv-loop : tie.InvT-loop
-Inv-loop tables start n a b i₀ p₀ i p = (i ≤ n) × (p ≡ start + 3 * i) × (seekIn a b (rows tables start n) ≡ seekIn a b (rows tables p (n - i)))
+Inv-loop tables start n a b p₀ left₀ p left = (p + 3 * left ≡ start + 3 * n) × (seekIn a b (rows tables start n) ≡ seekIn a b (rows tables p left))
 
 abbrev μ-loop : tie.MeasureT-loop
-μ-loop tables start n a b i₀ p₀ i p = n - i
+μ-loop tables start n a b p₀ left₀ p left = left
 
-loop-holds : tie.Need-loop-holds Inv-loop μ-loop
-loop-holds c = let a = c .args in
-    let e : a .n ≡ a .n - 0 = omega arith in
-    (omega arith, omega arith, ap (λ (j : ℕ). seekIn (a .a) (a .b) (rows (a .tables .now) (a .start) j)) e)
+fours-holds : tie.Need-fours-holds Inv-fours μ-fours Inv-loop μ-loop
+fours-holds c = (refl, refl)
 
-returns : tie.Need-returns Inv-loop μ-loop
-returns c = let a = c .before .before .before .before .before .before .before .args in
-    sym (c .before .before .before .before .before .before .loop .inv .2 ∙ hit (a .a) (a .b) (a .tables .now) (c .before .before .before .before .before .before .loop .p) (a .n - c .before .before .before .before .before .before .loop .i) (omega arith) (c .before .before .before .if1 .taken) (c .before .if2 .taken))
+returns : tie.Need-returns Inv-fours μ-fours Inv-loop μ-loop
+returns c = let a = c .before .before .before .before .before .before .before .args in let l = c .before .before .before .before .before .before .fours in
+    sym (l .inv .1 ∙ hit (a .a) (a .b) (a .tables .now) (l .p) (l .left) (l .p) (l .p + 1) (l .p + 2) (omega arith) refl refl refl (c .before .before .before .if1 .taken) (c .before .if2 .taken))
 
-loop-again : tie.Need-loop-again Inv-loop μ-loop
-loop-again c = let a = c .before .before .before .before .args in
-    let l = c .before .before .before .loop in (
-      omega arith,
-      omega arith,
-      l .inv .2 ∙ ⊎-elim
-          (λ w. miss-second (a .a) (a .b) (a .tables .now) (l .p) (a .n - l .i) (a .n - (l .i + 1)) (omega arith) (w .0 .taken) (w .2 .left))
-          (λ w. miss-first (a .a) (a .b) (a .tables .now) (l .p) (a .n - l .i) (a .n - (l .i + 1)) (omega arith) (w .left)) (c .if1 .came),
-    )
+returns-2 : tie.Need-returns-2 Inv-fours μ-fours Inv-loop μ-loop
+returns-2 c = let a = c .before .before .before .before .before .before .before .before .before .args in let l = c .before .before .before .before .before .before .before .before .fours in
+    sym (l .inv .1 ∙ miss1 (a .a) (a .b) (a .tables .now) (l .p) (l .left) (omega arith) (λ f e. ⊎-elim (λ w. w .2 .left e) (λ w. w .left f) (c .before .before .before .before .before .if1 .came))
+    ∙ hit (a .a) (a .b) (a .tables .now) (l .p + 3) (l .left - 1) (l .p + 3) (l .p + 4) (l .p + 5) (omega arith) refl (omega arith) (omega arith) (c .before .before .before .if3 .taken) (c .before .if4 .taken))
 
-returns-2 : tie.Need-returns-2 Inv-loop μ-loop
-returns-2 c = let a = c .before .before .args in
-    sym (c .before .loop .inv .2 ∙ ended (a .a) (a .b) (a .tables .now) (c .before .loop .p) (a .n - c .before .loop .i) (omega arith))
+returns-3 : tie.Need-returns-3 Inv-fours μ-fours Inv-loop μ-loop
+returns-3 c = let a = c .before .before .before .before .before .before .before .before .before .before .before .args in let l = c .before .before .before .before .before .before .before .before .before .before .fours in
+    sym (l .inv .1 ∙ miss2 (a .a) (a .b) (a .tables .now) (l .p) (l .left) (omega arith) (λ f e. ⊎-elim (λ w. w .2 .left e) (λ w. w .left f) (c .before .before .before .before .before .before .before .if1 .came)) (λ f e. ⊎-elim (λ w. w .2 .left e) (λ w. w .left f) (c .before .before .before .before .before .if3 .came))
+    ∙ hit (a .a) (a .b) (a .tables .now) (l .p + 6) (l .left - 2) (l .p + 6) (l .p + 7) (l .p + 8) (omega arith) refl (omega arith) (omega arith) (c .before .before .before .if5 .taken) (c .before .if6 .taken))
+
+returns-4 : tie.Need-returns-4 Inv-fours μ-fours Inv-loop μ-loop
+returns-4 c = let a = c .before .before .before .before .before .before .before .before .before .before .before .before .before .args in let l = c .before .before .before .before .before .before .before .before .before .before .before .before .fours in
+    sym (l .inv .1 ∙ miss3 (a .a) (a .b) (a .tables .now) (l .p) (l .left) (omega arith) (λ f e. ⊎-elim (λ w. w .2 .left e) (λ w. w .left f) (c .before .before .before .before .before .before .before .before .before .if1 .came)) (λ f e. ⊎-elim (λ w. w .2 .left e) (λ w. w .left f) (c .before .before .before .before .before .before .before .if3 .came)) (λ f e. ⊎-elim (λ w. w .2 .left e) (λ w. w .left f) (c .before .before .before .before .before .if5 .came))
+    ∙ hit (a .a) (a .b) (a .tables .now) (l .p + 9) (l .left - 3) (l .p + 9) (l .p + 10) (l .p + 11) (omega arith) refl (omega arith) (omega arith) (c .before .before .before .if7 .taken) (c .before .if8 .taken))
+
+fours-again : tie.Need-fours-again Inv-fours μ-fours Inv-loop μ-loop
+fours-again c = let a = c .before .before .before .before .before .before .before .before .before .before .args in let l = c .before .before .before .before .before .before .before .before .before .fours in
+    (omega arith, l .inv .1 ∙ miss4 (a .a) (a .b) (a .tables .now) (l .p) (l .left) (omega arith) (λ f e. ⊎-elim (λ w. w .2 .left e) (λ w. w .left f) (c .before .before .before .before .before .before .if1 .came)) (λ f e. ⊎-elim (λ w. w .2 .left e) (λ w. w .left f) (c .before .before .before .before .if3 .came)) (λ f e. ⊎-elim (λ w. w .2 .left e) (λ w. w .left f) (c .before .before .if5 .came)) (λ f e. ⊎-elim (λ w. w .2 .left e) (λ w. w .left f) (c .if7 .came)))
+
+loop-holds : tie.Need-loop-holds Inv-fours μ-fours Inv-loop μ-loop
+loop-holds c = c .before .fours .inv
+
+returns-5 : tie.Need-returns-5 Inv-fours μ-fours Inv-loop μ-loop
+returns-5 c = let a = c .before .before .before .before .before .before .before .before .before .args in let l = c .before .before .before .before .before .before .loop in
+    sym (l .inv .1 ∙ hit (a .a) (a .b) (a .tables .now) (l .p) (l .left) (l .p) (l .p + 1) (l .p + 2) (omega arith) refl refl refl (c .before .before .before .if9 .taken) (c .before .if10 .taken))
+
+loop-again : tie.Need-loop-again Inv-fours μ-fours Inv-loop μ-loop
+loop-again c = let a = c .before .before .before .before .before .before .args in let l = c .before .before .before .loop in
+    (omega arith, l .inv .1 ∙ miss (a .a) (a .b) (a .tables .now) (l .p) (l .left) (l .left - 1) (l .p) (l .p + 1) (l .p + 3) (omega arith) refl refl refl (λ f e. ⊎-elim (λ w. w .2 .left e) (λ w. w .left f) (c .if9 .came)))
+
+returns-6 : tie.Need-returns-6 Inv-fours μ-fours Inv-loop μ-loop
+returns-6 c = let a = c .before .before .before .before .args in let l = c .before .loop in
+    sym (l .inv .1 ∙ ended (a .a) (a .b) (a .tables .now) (l .p) (l .left) (omega arith))
 
 pub seek-spec : {M : Type 1} → statement M
 seek-spec =
     tie.close
-    (tie.spec Inv-loop μ-loop loop-holds (λ c. search needs) (λ c. search needs) (λ c. search needs) (λ c. search needs)
-    (λ c. search needs) (λ c. search needs) (λ c. search needs) (λ c. search needs) returns (λ c. search needs)
-    (λ c. search needs) (λ c. search needs) loop-again returns-2)
+    (tie.spec Inv-fours μ-fours Inv-loop μ-loop fours-holds (λ c. search needs) (λ c. search needs) (λ c. search needs)
+    (λ c. search needs) (λ c. search needs) (λ c. search needs) (λ c. search needs) (λ c. search needs) returns
+    (λ c. search needs) (λ c. search needs) (λ c. search needs) (λ c. search needs) (λ c. search needs) (λ c. search needs)
+    (λ c. search needs) (λ c. search needs) (λ c. search needs) returns-2 (λ c. search needs) (λ c. search needs)
+    (λ c. search needs) (λ c. search needs) (λ c. search needs) (λ c. search needs) (λ c. search needs) (λ c. search needs)
+    (λ c. search needs) returns-3 (λ c. search needs) (λ c. search needs) (λ c. search needs) (λ c. search needs)
+    (λ c. search needs) (λ c. search needs) (λ c. search needs) (λ c. search needs) (λ c. search needs) returns-4
+    (λ c. search needs) (λ c. search needs) fours-again loop-holds (λ c. search needs) (λ c. search needs)
+    (λ c. search needs) (λ c. search needs) (λ c. search needs) (λ c. search needs) (λ c. search needs) (λ c. search needs)
+    returns-5 (λ c. search needs) (λ c. search needs) (λ c. search needs) loop-again returns-6)
