@@ -15,7 +15,7 @@ use Rattle.definition.specs.Rules.{declareMembers, anyDynamic, declareTy
 use Rattle.definition.specs.Shapes.{kindOf, formats, sameKey, imageOf}
 use Rattle.definition.specs.Sheet.{recordAt, afterRecord, tagRank, u16sAt, u32sAt, membersAt, membersEnd, typeFields, literalFields, constantFields, globalFields, availableFields, remapFields, entryOf}
 use Rattle.definition.specs.State.{sameNumbers, sameComposite, occurrences, listed, lookup, capabilityInstructions, instructions, moduleWords}
-use Rattle.definition.specs.Tests.{headerTest, add, addRecord, noRecord, placeTest, memberNames, scalarFits, spaceFits, classFits, bindingFits, memberTypes, sameBytes, sameRecord, typeRead, remapRead, entryTest, readingTest, records, readSheet}
+use Rattle.definition.specs.Tests.{headerTest, add, addRecord, noRecord, placeTest, memberNames, scalarFits, spaceFits, classFits, bindingFits, memberTypes, sameBytes, sameRecord, typeRead, remapRead, entryTest, readingTest, records}
 use Rattle.definition.specs.Unfit.{membersFit, constantFits, globalFits, fitnessTest}
 use Rattle.definition.specs.Utf8.{octets, utf8, noZero}
 use Rattle.definition.specs.Zeroable.{zeroables, zeroable}
@@ -104,5 +104,5 @@ rows =
 
 -- all rows are right
 pub examples : T (every right rows)
-unfolding ℕ-discrete right rows u16At u32At u64At nameAt nameEnd formatCapabilities dimCapabilities literalWith findAt find compositeOf nullOf words allWords packed put putCount sameLiteral recordTest declareRecord judged check declare wrapped declareMembers anyDynamic declareType idsOf constantOf declareConstant endsDynamic needsWrapper remapOf declareGlobal kindOf formats sameKey imageOf recordAt afterRecord tagRank u16sAt u32sAt membersAt membersEnd typeFields literalFields constantFields globalFields availableFields remapFields entryOf sameNumbers sameComposite occurrences listed lookup capabilityInstructions instructions moduleWords headerTest add addRecord noRecord placeTest memberNames scalarFits spaceFits classFits bindingFits memberTypes sameBytes sameRecord typeRead remapRead entryTest readingTest records readSheet membersFit constantFits globalFits fitnessTest octets utf8 noZero zeroables zeroable
+unfolding ℕ-discrete right rows u16At u32At u64At nameAt nameEnd formatCapabilities dimCapabilities literalWith findAt find compositeOf nullOf words allWords packed put putCount sameLiteral recordTest declareRecord judged check declare wrapped declareMembers anyDynamic declareType idsOf constantOf declareConstant endsDynamic needsWrapper remapOf declareGlobal kindOf formats sameKey imageOf recordAt afterRecord tagRank u16sAt u32sAt membersAt membersEnd typeFields literalFields constantFields globalFields availableFields remapFields entryOf sameNumbers sameComposite occurrences listed lookup capabilityInstructions instructions moduleWords headerTest add addRecord noRecord placeTest memberNames scalarFits spaceFits classFits bindingFits memberTypes sameBytes sameRecord typeRead remapRead entryTest readingTest records membersFit constantFits globalFits fitnessTest octets utf8 noZero zeroables zeroable
 examples = tt

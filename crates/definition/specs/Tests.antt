@@ -5,7 +5,7 @@ use mathlib.Core.Bool.{Bool, true, false, _&&_, _||_, not}
 use mathlib.Core.List.{List, [], _∷_, _++_}
 use mathlib.Core.Option.{Option, some, none}
 use lib.Dec.{eqb, leb, ltb}
-use lib.ListN.{length, drop}
+use lib.ListN.{length}
 use Rattle.definition.specs.Choice.{pick, unless, first, within, among, every}
 use Rattle.definition.specs.Bytes.{Name, u16At}
 use Rattle.definition.specs.Utf8.{nameFits}
@@ -318,7 +318,3 @@ records test step (suc fuel) rest s =
     let here = test s r in
     let later = records test step fuel (afterRecord rest) (step s r) in
     pick (eqb (length rest) 0) (fit s) (pick (noRecord rest) (refused 4) (judge here later))
-
--- reading alone: tests 1 to 12
-unfoldable pub readSheet : List ℕ → Judged Seen
-readSheet s = judge (headerTest s) (records readingTest addRecord (length s) (drop headerLength s) nothing)
