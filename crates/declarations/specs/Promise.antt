@@ -1,5 +1,7 @@
 -- The promises of the three operations: of each answer and of the buffer which definition they equal, and the mission's demands.
--- Document 01: "For each operation the promise says of each result which definition it equals, buffer words and refusals counted".
+-- Document 01: "For each operation the promise says of each result which definition it equals, buffer words and refusals counted;
+-- where these papers leave a choice to the program, it says that". They leave none: `same` is an equation with the definition, which
+-- has one answer, one count, one bound and one list of words for each sheet and buffer.
 use Prim.Native.Nat.{ℕ, _<_}
 use mathlib.Core.Path.{_≡_}
 use mathlib.Core.Bool.{Bool}

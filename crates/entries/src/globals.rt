@@ -62,7 +62,7 @@ fn binding_of(b: &[u8], n: usize) -> Binding
     })
 }
 
-// Global i.
+// Global i, for Wrapped, which asks once all records are read.
 pub fn global_at(s: &[u8], globals: &[u32], i: usize) -> GlobalVariable
     requires { ⌜ i < length (now globals) ⌝ }
     ensures { λ r. ⌜ TakenFrom (now (s .entry)) (getD (now (globals .entry)) i 0) r ⌝ }
@@ -87,7 +87,7 @@ pub fn global_of(b: &[u8]) -> GlobalVariable
     }
 }
 
-// Remap i.
+// Remap i: globals look through the remaps at each binding, so only their places are kept.
 pub fn remap_at(s: &[u8], remaps: &[u32], i: usize) -> Remap
     requires { ⌜ i < length (now remaps) ⌝ }
     ensures { λ r. ⌜ remapOf r ≡ remapFrom (now (s .entry)) (getD (now (remaps .entry)) i 0) ⌝ }

@@ -1,5 +1,6 @@
 // Finding a type's id may declare it, and declaring it may find another's: the nesting rank of the shape falls.
-// With them what is found or declared the same way: a literal and a null.
+// With them what is found or declared the same way: a literal and a null. Nothing here reads the sheet: an entry is found by its
+// index, and declared by `writer_types` alone.
 use kinds::ScalarKind;
 use literals::Literal;
 use lookup::Inner;

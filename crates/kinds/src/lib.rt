@@ -1,4 +1,5 @@
-// The cases that document 01 numbers, under the Rust's names (its IR), and how a number is taken for its case.
+// The cases that document 01 numbers, under the Rust's names (its IR), and how a number is taken for its case. Whether a number
+// is one that document 01 allows is test 10, in `sheet_fields`; here every number is taken for some case.
 ghost use mathlib.Core.Path.{_≡_};
 ghost use mathlib.Core.Bool.{true};
 ghost use Prim.Native.Nat.{_≤_, _<_};

@@ -1,4 +1,5 @@
-// Literals that keep every bit, and are told apart by form and bits.
+// Literals that keep every bit, and are told apart by form and bits, never as numbers. Reading them from a record is for
+// `entries`, giving them an id for `finding`.
 ghost use mathlib.Core.Path.{_≡_};
 ghost use Prim.Native.Nat.{_/_, _%_};
 ghost use lib.Ieee.{toBits, binary32, binary64};

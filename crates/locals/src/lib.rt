@@ -1,5 +1,5 @@
 // The shape of a type entry: `make_local` and `LocalImageType::from_inner` of the Rust's `mod.rs`, with the conversions that they use.
-// Aggregates have none.
+// Aggregates have none. No id is given here, and no table looked at.
 use entries::types::TypeInner;
 use kinds::AddressSpace;
 use kinds::ImageClass;

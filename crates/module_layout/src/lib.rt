@@ -1,5 +1,6 @@
-// The last stage: from the sections that a writer holds to the module in the caller's buffer.
-// Each section is written into what is left of the buffer, which is lent from the current place on.
+// The last stage: tests 15 and 16, then from the sections that a writer holds to the module in the caller's buffer.
+// Each section is written into what is left of the buffer, which is lent from the current place on. Nothing is written before
+// both tests are passed, and the sections are taken as they are.
 use spirv::instructions::capability;
 use spirv::layout::PhysicalLayout;
 use spirv::layout::section;

@@ -1,5 +1,5 @@
-// The sheet's frame: its header, the record at a place, the rank of a tag, and what has been read so far.
-// Decides tests 1 to 7 of document 01; what stands in a record's body is read elsewhere.
+// The sheet's frame: its header, the record at a place, the rank of a tag, and how many records of each kind were read.
+// Decides tests 1 to 7 of document 01. A record's body is handed on as that part of the sheet, and not looked into here.
 ghost use mathlib.Core.Path.{_≡_};
 ghost use mathlib.Core.Bool.{true, false};
 ghost use Prim.Native.Nat.{_+_, _<_};

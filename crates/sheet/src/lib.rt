@@ -1,4 +1,5 @@
-// A record's own tests, 5 to 12 of document 01 in its order, and what is held of the records that passed them.
+// A record's own tests, 5 to 12 of document 01 in its order, and what is held of the records that passed them: their places,
+// the types' hashes and the counts. It reads no field but to compare (12), and declares nothing.
 mod bodies;
 mod hash;
 pub mod holding;

@@ -1,6 +1,6 @@
 // The fields of a record, by its tag: where they end (test 8), its names (9), its values (10) and its references (11).
-// Each function answers for every tag and every body, whether or not the tests before it passed, so that the tests can
-// be put in any order above; document 01's order is kept by whoever calls them.
+// Each function answers for every tag and every body, whether or not the tests before it passed; document 01's order of them is
+// kept by `sheet`. No field is kept here: `entries` takes them by value once the tests are passed.
 mod constants;
 mod globals;
 mod members;

@@ -1,5 +1,6 @@
 // The writer's tables and sections, in regions of two slices that the caller lends, and how much of each is in use.
-// One function for each thing that the rules do to the definition's State; whatever is above only composes them.
+// One function for each thing that the rules do to the definition's State; whatever is above only composes them. No rule
+// stands here: which id, which key and which instruction is for the callers to say.
 pub mod sections;
 
 use crate::sections::constant_composite;
@@ -371,7 +372,7 @@ pub fn enter_composite(tables: &mut [u64], mut w: Writer, key: u64, n: usize, id
 
 // ---- names, and what is put from the tables; `sections` has the other instructions
 
-// Names an id.
+// Whether names are wanted is for the caller to ask (flag bit 0).
 pub fn label(sections: &mut [u32], mut w: Writer, target: u64, bytes: &[u8]) -> Writer
     requires { ⌜ (length (now bytes) < 256) × RoomFor (naming (length (now bytes) + 3)) w (now sections) ⌝ }
     ensures { λ r. ⌜ Puts names (length (now (bytes .entry)) + 3) (name target (now (bytes .entry))) w (now (sections .entry)) r (now (sections .exit)) ⌝ }
@@ -383,7 +384,7 @@ pub fn label(sections: &mut [u32], mut w: Writer, target: u64, bytes: &[u8]) -> 
     w
 }
 
-// Names a member of an id.
+// The same of a member, which has no id of its own: the struct's, and its place there.
 pub fn label_member(
     sections: &mut [u32],
     mut w: Writer,

@@ -1,5 +1,5 @@
-// The constants of the sheet: each is written as Rust's `write_constant_expr` writes it, and test 13 says whether it fits.
-// Both read the constant from its record, once tests 8 to 11 of the record are passed.
+// The constants of the sheet: each is written as the Rust's `write_constant_expr` writes it, and test 13 says whether it fits.
+// Both read the constant from its record, once tests 8 to 11 of the record are passed; no type entry is declared here.
 mod composites;
 mod expressions;
 mod fitness;
