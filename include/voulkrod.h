@@ -2,8 +2,8 @@
  *
  * `rt staticlib exports`, run at the root of the repository, proves the code and writes
  * target/staticlib/libexports.a, for programs on x86-64 Linux to link. It needs memset
- * and nothing else. crates/exports is the source of it, and document 01 says what a
- * sheet is and what each answer means.
+ * and nothing else. crates/exports is the source of it. docs/SHEET.md says what a sheet
+ * is, byte by byte, what each refusal means, and what to do about it.
  *
  * What every call asks of its caller:
  *   sheet    points to `length` bytes that nothing writes to during the call. It is not
@@ -51,7 +51,7 @@ extern "C" {
  *   10  a field outside its values
  *   11  a reference to an entry not already read
  *   12  a type, or a remapped group and binding, that is there already
- *   13  unfit: see document 01
+ *   13  unfit: a constant or a global that does not fit its type or its space
  *   14  a capability is needed that is not available
  *   and after all records:
  *   15  the bound would pass 4,194,303
