@@ -8,10 +8,10 @@ use Rattle.sheet_writer.proofs.type_test.Statement.{statement}
 use Rattle.sheet_writer.proofs.type_test.Tie as tie
 
 returns : tie.Need-returns
-returns c = let a = c .before .before .before .before .before .before .before .args in stop _ _ 14 0 (type-told (now (a .s)) (a .available) (now (a .rest)) (c .before .before .before .before .tag-of .result) (now (c .before .before .before .body-of .result)) (c .before .before .inner-of .result) (c .before .type-available .result) (c .before .before .before .before .tag-of .ensures) (c .before .before .before .body-of .ensures) (c .before .before .inner-of .ensures) (c .before .type-available .ensures) (c .before .before .before .before .before .before .before .pre)) (c .if1 .taken)
+returns c = λ o f. let a = c .before .before .before .before .before .before .args in stop _ _ 14 0 (type-told o (now (a .rest)) (c .before .before .before .before .tag-of .result) (now (c .before .before .before .body-of .result)) (c .before .before .inner-of .result) (c .before .type-available .result) (c .before .before .before .before .tag-of .ensures) (c .before .before .before .body-of .ensures) (c .before .before .inner-of .ensures) (c .before .type-available .ensures o f) (c .before .before .before .before .before .before .pre)) (c .if1 .taken)
 
 returns-2 : tie.Need-returns-2
-returns-2 c = let a = c .before .before .before .before .before .before .before .args in go _ _ 14 0 0 (type-told (now (a .s)) (a .available) (now (a .rest)) (c .before .before .before .before .tag-of .result) (now (c .before .before .before .body-of .result)) (c .before .before .inner-of .result) (c .before .type-available .result) (c .before .before .before .before .tag-of .ensures) (c .before .before .before .body-of .ensures) (c .before .before .inner-of .ensures) (c .before .type-available .ensures) (c .before .before .before .before .before .before .before .pre)) (c .if1 .left) refl
+returns-2 c = λ o f. let a = c .before .before .before .before .before .before .args in go _ _ 14 0 0 (type-told o (now (a .rest)) (c .before .before .before .before .tag-of .result) (now (c .before .before .before .body-of .result)) (c .before .before .inner-of .result) (c .before .type-available .result) (c .before .before .before .before .tag-of .ensures) (c .before .before .before .body-of .ensures) (c .before .before .inner-of .ensures) (c .before .type-available .ensures o f) (c .before .before .before .before .before .before .pre)) (c .if1 .left) refl
 
 pub type-test-spec : {M : Type 1} → statement M
 type-test-spec =
