@@ -16,11 +16,12 @@ use lib.ListN.{length}
 use Rattle.definition.specs.Choice.{pick, among, every}
 use Rattle.definition.specs.Numbers.{Dim1D, DimCube}
 use Rattle.definition.specs.Bytes.{u32At}
-use Rattle.definition.specs.Sheet.{Record, Fields, Entry, u32sAt, tagRank, entryOf, availableFields}
+use Rattle.definition.specs.Sheet.{Record, Fields, Entry, TypeInner, u32sAt, tagRank, entryOf, availableFields, typeFields}
 use Rattle.definition.specs.Tests.{Seen, add, addRecord}
 use Rattle.definition.specs.Shapes.{Kind, Shape, scalar, vector, matrix, pointer, valuePointer, image, sampler, accelerationStructure, rayQuery, bindingArray, bindingPointer}
+use Rattle.definition.specs.Shapes.{shapeOf as definedShape}
 use Rattle.definition.specs.Finding.{extendedFormats, formatCapabilities, dimCapabilities, capabilitiesOf}
-use Rattle.definition.specs.Unfit.{checkedCapabilities, isAvailable}
+use Rattle.definition.specs.Unfit.{checkedCapabilities, isAvailable, shapeAvailable}
 use Rattle.definition.proofs.Truth.{pick-for}
 use Rattle.lookup.specs.declared.VectorSize.{VectorSize}
 use Rattle.lookup.specs.declared.VectorSize.the-variants.{One, Many}
@@ -166,3 +167,15 @@ module _ (o : Option (List ℕ)) (a : Available) (f : Flagged o a) where
   as-flagged rayQuery = one _ (f .ray-query-khr)
   as-flagged (bindingArray b n) = refl
   as-flagged (bindingPointer b n s y) = refl
+
+-- ---- tags
+
+-- of a type that is no image, no acceleration structure and no ray query nothing is checked
+pub unchecked : (t : ℕ) → (t ≡ 24 → ⊥) → (t ≡ 26 → ⊥) → (t ≡ 27 → ⊥) → (o : Option (List ℕ)) (b : List ℕ) (n : ℕ) → shapeAvailable o (definedShape (typeFields t b n .value)) ≡ true
+unfolding typeFields
+unchecked t f g h o b n =
+    let P : Fields TypeInner → Type 0 = λ x. shapeAvailable o (definedShape (x .value)) ≡ true in
+    rw (ne-eqb t 24 f, ne-eqb t 26 g, ne-eqb t 27 h)
+    (pick-for P (eqb t 16) _ _ refl (pick-for P (eqb t 17) _ _ refl (pick-for P (eqb t 18) _ _ refl (pick-for P (eqb t 19) _ _ refl
+    (pick-for P (eqb t 20) _ _ refl (pick-for P (eqb t 21) _ _ refl (pick-for P (eqb t 22) _ _ refl (pick-for P (eqb t 23) _ _ refl
+    (pick-for P (eqb t 25) _ _ refl refl)))))))))

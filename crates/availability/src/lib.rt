@@ -13,11 +13,12 @@ use lookup::Capabilities;
 use lookup::LocalType;
 use lookup::capabilities_of;
 ghost use mathlib.Core.Path.{_≡_};
+ghost use mathlib.Core.Bool.{true, false};
 ghost use mathlib.Core.List.{List, _++_};
 ghost use mathlib.Core.Option.{Option, some, none};
 ghost use Prim.Native.Nat.{ℕ};
 ghost use Rattle.definition.specs.Choice.{among, every};
-ghost use Rattle.definition.specs.Sheet.{availableFields, recordAt};
+ghost use Rattle.definition.specs.Sheet.{availableFields, recordAt, typeFields};
 ghost use Rattle.definition.specs.Tests.{Seen, addRecord};
 ghost use Rattle.definition.specs.Shapes.{shapeOf as definedShape};
 ghost use Rattle.definition.specs.Unfit.{checkedCapabilities, shapeAvailable};
@@ -142,5 +143,17 @@ pub fn type_available(a: Available, t: TypeInner) -> bool
     match make_local(t) {
         Made::Local(l) => shape_available(a, l),
         Made::Aggregate => true,
+    }
+}
+
+// Whether a type of this tag can need a capability that is checked: an image, an acceleration structure or a ray query.
+pub fn is_checked(t: u8) -> bool
+    ensures { λ r. ⌜ (r ≡ false → (o : Option (List ℕ)) (b : List ℕ) (n : ℕ) → shapeAvailable o (definedShape (typeFields t b n .value)) ≡ true) ⌝ }
+{
+    match t {
+        24 => true,
+        26 => true,
+        27 => true,
+        _ => false,
     }
 }

@@ -165,3 +165,8 @@ pub type-told : (o : Option (List ℕ)) (rest : List ℕ) (t : ℕ) (b : List �
 type-told o rest t b i r et eb k e f =
     e b (nameEnd b 0) ∙ ap (λ (x : Defined.TypeInner). shapeAvailable o (shapeOf x)) (k (rw (et, eb) f))
     ∙ (λ j. shapeAvailable o (shapeOf (Defined.typeFields (et j) (eb j) (nameEnd (eb j) 0) .value)))
+
+-- of a record's type nothing is checked, if nothing is of its tag
+pub type-unchecked : (o : Option (List ℕ)) (rest : List ℕ) (t : ℕ) → t ≡ recordAt rest .tag → ((b : List ℕ) (n : ℕ) → shapeAvailable o (shapeOf (Defined.typeFields t b n .value)) ≡ true)
+    → 0 ≡ unless (shapeAvailable o (shapeOf (Defined.typeFields (recordAt rest .tag) (recordAt rest .body) (nameEnd (recordAt rest .body) 0) .value))) 14 0
+type-unchecked o rest t e h = ap (λ (b : Bool). unless b 14 0) (sym (rw e at (h (recordAt rest .body) (nameEnd (recordAt rest .body) 0))))

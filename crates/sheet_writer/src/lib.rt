@@ -41,7 +41,11 @@ fn type_test(available: Available, rest: &[u8]) -> u8
     requires { ⌜ innerFits (typeFields (recordAt (now rest) .tag) (recordAt (now rest) .body) (nameEnd (recordAt (now rest) .body) 0) .value) ≡ true ⌝ }
     ensures { λ r. ⌜ ((o : Option (List ℕ)) → Flagged o available → r ≡ unless (shapeAvailable o (shapeOf (typeFields (recordAt (now (rest .entry)) .tag) (recordAt (now (rest .entry)) .body) (nameEnd (recordAt (now (rest .entry)) .body) 0) .value))) 14 0) ⌝ }
 {
-    let t = entries::types::inner_of(records::tag_of(rest), records::body_of(rest));
+    let tag = records::tag_of(rest);
+    if !availability::is_checked(tag) {
+        return 0;
+    }
+    let t = entries::types::inner_of(tag, records::body_of(rest));
     if !availability::type_available(available, t) {
         return 14;
     }
