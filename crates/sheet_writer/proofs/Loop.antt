@@ -4,6 +4,7 @@ use Prim.Native.Nat.{ℕ, _+_, _-_, _≤_, _<_}
 use mathlib.Core.Path.{_≡_, refl, sym, _∙_, subst}
 use mathlib.Core.Bool.{true, false}
 use mathlib.Core.List.{List, []}
+use mathlib.Core.Option.{none}
 use native.Mathlib.Omega.{arith}
 use lib.ListN.{length, drop, getD, length-drop}
 use lib.Seq.{length-take-le}
@@ -23,6 +24,8 @@ use Rattle.sheet.specs.Hash.{Hashed}
 use Rattle.sheet.specs.Holding.{noCounts, addCounts, Passed, Held as Kept}
 use Rattle.sheet.proofs.Adding.{looked, stored, counted, placed-of, rank-most}
 use Rattle.zeroable.specs.Memo.{Memo}
+use Rattle.availability.specs.declared.Available.{Available}
+use Rattle.availability.specs.Flags.{Flagged}
 use Rattle.zeroable.proofs.Kept.{grows, empty as nothing-known}
 use Rattle.writer.specs.declared.Writer.{Writer}
 use Rattle.writer.specs.Held.{Held, Room, Grown}
@@ -38,7 +41,7 @@ abbrev pub progressOf : List ℕ → Places → Counts → State → Progress
 progressOf s p k x = record { seen = seenOf s p k; state = x }
 
 -- at the loop's head
-pub record Holds (s T₀ S₀ m₀ : List ℕ) (p₀ : Places) (nr nb : ℕ) (T S m : List ℕ) (p : Places) (at : ℕ) (k : Counts) (w : Writer) : Type 0 where
+pub record Holds (s T₀ S₀ m₀ : List ℕ) (p₀ : Places) (nr nb : ℕ) (T S m : List ℕ) (p : Places) (at : ℕ) (k : Counts) (v : Available) (w : Writer) : Type 0 where
   pub tables : length T ≡ length T₀
   pub sections : length S ≡ length S₀
   pub memo-length : length m ≡ length m₀
@@ -49,6 +52,7 @@ pub record Holds (s T₀ S₀ m₀ : List ℕ) (p₀ : Places) (nr nb : ℕ) (T 
   pub ample : Ample p
   pub few : WithinLimits k
   pub hashed : Hashed s (p .types) (k .types)
+  pub available : Flagged (seenOf s p k .available) v
   pub small : length s ≤ 16384
   pub used : Used nr nb at k w
   pub memo : Memo (seenOf s p k .types) m
@@ -58,13 +62,13 @@ pub record Holds (s T₀ S₀ m₀ : List ℕ) (p₀ : Places) (nr nb : ℕ) (T 
   pub going : Going recordTest (declareRecord (optionsOf (flagsOf s))) (recordsOf s) s at (progressOf s p k state)
 
 -- what was read, as a turn asks for it
-pub before : (s : List ℕ) (p : Places) (k : Counts) → Ample p → WithinLimits k → Before s (p .remaps) (p .types) k (seenOf s p k)
-before s p k a f = record { looked = looked s p k a f; available = refl }
+pub before : (s : List ℕ) (p : Places) (k : Counts) (v : Available) → Ample p → WithinLimits k → Flagged (seenOf s p k .available) v → Before s (p .remaps) (p .types) k v (seenOf s p k)
+before s p k v a f h = record { looked = looked s p k a f; available = h }
 
-pub begins : (s T S m : List ℕ) (p : Places) (nr nb start′ : ℕ) (k : Counts) (w : Writer) → headerTest s ≡ 0 → Ample p → ((j : ℕ) → getD m j 0 ≡ 0) → k ≡ noCounts
-    → start′ ≡ startOf s → start′ ≤ 4294967295 → w ≡ fresh nr nb start′ → Held w T S (empty start′) → Holds s T S m p nr nb T S m p 6 k w
+pub begins : (s T S m : List ℕ) (p : Places) (nr nb start′ : ℕ) (k : Counts) (v : Available) (w : Writer) → headerTest s ≡ 0 → Ample p → ((j : ℕ) → getD m j 0 ≡ 0) → k ≡ noCounts → Flagged none v
+    → start′ ≡ startOf s → start′ ≤ 4294967295 → w ≡ fresh nr nb start′ → Held w T S (empty start′) → Holds s T S m p nr nb T S m p 6 k v w
 unfolding spaceFits bindingFits
-begins s T S m p nr nb start′ k w h a e ek es low ew held =
+begins s T S m p nr nb start′ k v w h a e ek ev es low ew held =
     let z = header-size s h in
     rw ek (record {
       tables = refl;
@@ -77,6 +81,7 @@ begins s T S m p nr nb start′ k w h a e ek es low ew held =
       ample = a;
       few = record { remaps = omega arith; types = omega arith; constants = omega arith; globals = omega arith };
       hashed = λ i l. absurd (omega arith);
+      available = ev;
       small = z .1;
       used = rw ew (omega arith);
       memo = nothing-known [] m (omega arith) e;
@@ -112,8 +117,8 @@ record-length rest e =
     let l = length-take-le (u16At rest 0 - 1) (drop 3 rest) (simp length-drop (omega (arith, z .0, z .1))) in
     (omega (arith, l, z .0), omega (arith, z .0))
 
-module _ (s T₀ S₀ m₀ : List ℕ) (p₀ : Places) (nr nb : ℕ) (T S m : List ℕ) (p : Places) (at : ℕ) (k : Counts) (w : Writer)
-    (h : Holds s T₀ S₀ m₀ p₀ nr nb T S m p at k w) (cap : Capacity s nr nb T₀ S₀ m₀) (ok : headerTest s ≡ 0) where
+module _ (s T₀ S₀ m₀ : List ℕ) (p₀ : Places) (nr nb : ℕ) (T S m : List ℕ) (p : Places) (at : ℕ) (k : Counts) (v : Available) (w : Writer)
+    (h : Holds s T₀ S₀ m₀ p₀ nr nb T S m p at k v w) (cap : Capacity s nr nb T₀ S₀ m₀) (ok : headerTest s ≡ 0) where
   abbrev o : Options
   o = optionsOf (flagsOf s)
 
@@ -163,7 +168,7 @@ module _ (s T₀ S₀ m₀ : List ℕ) (p₀ : Places) (nr nb : ℕ) (T S m : Li
       pub ready : Ready s (p .remaps) (p .types) k rest T S m w
       ready = record {
         seen = seenOf s p k;
-        before = before s p k (h .ample) (h .few);
+        looked = looked s p k (h .ample) (h .few);
         stored = stored s p k (h .ample) (h .few) (h .hashed);
         few = h .few .types;
         small = bytes-left;
@@ -172,10 +177,10 @@ module _ (s T₀ S₀ m₀ : List ℕ) (p₀ : Places) (nr nb : ℕ) (T S m : Li
         room = λ z. tested-room z .0;
       }
 
-      module _ (t : Turn) (T′ S′ m′ : List ℕ) (turn : Turned s (p .remaps) (p .types) k rest (flagsOf s) w T S t T′ S′ m′) where
+      module _ (t : Turn) (T′ S′ m′ : List ℕ) (turn : Turned s (p .remaps) (p .types) k v rest (flagsOf s) w T S t T′ S′ m′) where
         -- the definition's own test, in the state that is held
         tested : t .refused ≡ recordTest now (recordAt (drop at s))
-        tested = rw (← e) (turn .told (seenOf s p k) (before s p k (h .ample) (h .few)) (h .state) (h .held))
+        tested = rw (← e) (turn .told (seenOf s p k) (before s p k v (h .ample) (h .few) (h .available)) (h .state) (h .held))
 
         pub refuses : (t .refused ≡ 0 → ⊥) → refused (t .refused) ≡ beforeBound s
         refuses f = ends-refused recordTest (declareRecord o) (recordsOf s) s at now (h .going) lt whole-record (t .refused) tested f ∙ judged
@@ -188,16 +193,16 @@ module _ (s T₀ S₀ m₀ : List ℕ) (p₀ : Places) (nr nb : ℕ) (T S m : Li
           pub passed : Passed s p k at
           passed = record { ample = h .ample; few = h .few; hashed = h .hashed; small = omega (arith, h .small); tested = read }
 
-          pub turns : (p′ : Places) (k′ : Counts) (at′ : ℕ) → Kept s p k at p′ k′ → at′ ≡ at + (2 + u16At rest 0)
+          pub turns : (p′ : Places) (k′ : Counts) (v′ : Available) (at′ : ℕ) → Kept s p k at p′ k′ → ((n : Seen) → Flagged (n .available) v → Flagged (addRecord n (recordAt rest) .available) v′) → at′ ≡ at + (2 + u16At rest 0)
               → length T′ ≡ length T → length S′ ≡ length S → length m′ ≡ length m
               → length (p′ .remaps) ≡ length (p .remaps) → length (p′ .types) ≡ length (p .types) → length (p′ .constants) ≡ length (p .constants) → length (p′ .globals) ≡ length (p .globals)
-              → Holds s T₀ S₀ m₀ p₀ nr nb T′ S′ m′ p′ at′ k′ (t .writer)
+              → Holds s T₀ S₀ m₀ p₀ nr nb T′ S′ m′ p′ at′ k′ v′ (t .writer)
           unfolding declareRecord addRecord
-          turns p′ k′ at′ a ea lT lS lm lr lt′ lc lg =
-              let b = before s p k (h .ample) (h .few) in
-              let v = turn .written z in
+          turns p′ k′ v′ at′ a av ea lT lS lm lr lt′ lc lg =
+              let b = looked s p k (h .ample) (h .few) in
+              let y = turn .written z in
               let x = declareEntry o (seenOf s p k) (entryOf (recordAt (drop at s)) .value) (h .state) in
-              let u = tested-room (rw e read) .1 (t .writer) (v .grown) in
+              let u = tested-room (rw e read) .1 (t .writer) (y .grown) in
               let en : at′ ≡ at + l = omega (arith, ea, record-length rest one .0) in
               let places : length (seenOf s p′ k′ .types) ≤ length m′ = omega (arith, counted s p′ k′ (a .ample) (a .few) .types, a .few .types, lm, h .memo-length, cap .memo-length) in
               record {
@@ -211,11 +216,12 @@ module _ (s T₀ S₀ m₀ : List ℕ) (p₀ : Places) (nr nb : ℕ) (T S m : Li
                 ample = a .ample;
                 few = a .few;
                 hashed = a .hashed;
+                available = subst (λ (n : Seen). Flagged (n .available) v′) (sym (a .seen)) (subst (λ (i : List ℕ). Flagged (addRecord (seenOf s p k) (recordAt i) .available) v′) e (av (seenOf s p k) (h .available)));
                 small = h .small;
                 used = rw (en, a .counts, ← e) u;
                 memo = subst (λ (n : Seen). Memo (n .types) m′) (sym (a .seen)) (memo-added (seenOf s p k) (tagRank (recordFrom s at .tag)) (entryOf (recordFrom s at) .value) m′ (subst (λ (n : Seen). length (n .types) ≤ length m′) (a .seen) places) (turn .memo));
                 globals-fit = subst GlobalsFit (sym (a .seen)) (fits-added (seenOf s p k) (tagRank (recordFrom s at .tag)) (entryOf (recordFrom s at) .value) (told (seenOf s p k) (recordFrom s at) (entryOf (recordFrom s at)) refl read .values) (h .globals-fit));
                 state = x;
-                held = subst (λ (y : List ℕ). Held (t .writer) T′ S′ (declareEntry o (seenOf s p k) (entryOf (recordAt y) .value) (h .state))) e (v .held (seenOf s p k) b (h .state) (h .held));
+                held = subst (λ (i : List ℕ). Held (t .writer) T′ S′ (declareEntry o (seenOf s p k) (entryOf (recordAt i) .value) (h .state))) e (y .held (seenOf s p k) b (h .state) (h .held));
                 going = rw (ea, e, a .seen) (goes-on recordTest (declareRecord o) (recordsOf s) s at now (h .going) lt whole-record (sym tested ∙ z));
               }

@@ -36,23 +36,24 @@ use Rattle.definition.specs.Sheet as Defined
 use Rattle.definition.specs.Shapes.{shapeOf}
 use Rattle.definition.specs.Tests.{innerFits}
 use Rattle.definition.specs.Unfit.{shapeAvailable}
-use Rattle.records.specs.declared.Place.{Place}
-use Rattle.records.specs.Places.{availableFrom, typesFrom, remapFrom, typeOf as recordType}
+use Rattle.records.specs.Places.{typesFrom, remapFrom, typeOf as recordType}
 use Rattle.entries.specs.declared.types.TypeInner.{TypeInner}
 use Rattle.entries.specs.Types.{Taken, innerOf}
+use Rattle.availability.specs.declared.Available.{Available}
+use Rattle.availability.specs.Flags.{Flagged}
 use Rattle.sheet_writer.specs.Turning.{Before, Passed, FitnessTold, EntryWritten, costAt}
 use Rattle.sheet_writer.proofs.Given.{Told, told, names-types, typeOf, constantOf, globalOf, is-type, is-constant, is-global, is-available, is-remap}
 
 -- ---- the record's own test: 5 to 12, then 13 and 14
 
-module _ (s rs ts : List ℕ) (k : Counts) (rest : List ℕ) (w : Writer) (T S : List ℕ) where
+module _ (s rs ts : List ℕ) (k : Counts) (a : Available) (rest : List ℕ) (w : Writer) (T S : List ℕ) where
   pub read-first : (r : ℕ) → ((n : Seen) → Looked s rs ts k n → r ≡ readingTest n (recordAt rest)) → (r ≡ 0 → ⊥)
-      → (n : Seen) → Before s rs ts k n → (x : State) → Held w T S x → r ≡ recordTest (record { seen = n; state = x }) (recordAt rest)
+      → (n : Seen) → Before s rs ts k a n → (x : State) → Held w T S x → r ≡ recordTest (record { seen = n; state = x }) (recordAt rest)
   unfolding recordTest
   read-first r e f n b x h = first-stop r (readingTest n (recordAt rest)) _ (e n (b .looked)) f
 
-  pub then-fits : (r f : ℕ) → ((n : Seen) → Looked s rs ts k n → r ≡ readingTest n (recordAt rest)) → r ≡ 0 → FitnessTold s rs ts k rest w T f
-      → (n : Seen) → Before s rs ts k n → (x : State) → Held w T S x → f ≡ recordTest (record { seen = n; state = x }) (recordAt rest)
+  pub then-fits : (r f : ℕ) → ((n : Seen) → Looked s rs ts k n → r ≡ readingTest n (recordAt rest)) → r ≡ 0 → FitnessTold s rs ts k a rest w T f
+      → (n : Seen) → Before s rs ts k a n → (x : State) → Held w T S x → f ≡ recordTest (record { seen = n; state = x }) (recordAt rest)
   unfolding recordTest
   then-fits r f e z t n b x h = first-go r (readingTest n (recordAt rest)) _ f (e n (b .looked)) z (t n b S x h)
 
@@ -74,7 +75,7 @@ module _ (s rs ts : List ℕ) (k : Counts) (rest : List ℕ) (p : Passed s rs ts
 
   -- the types that were read are counted
   counted-types : length (p .seen .types) ≡ k .types
-  counted-types = p .before .looked .counted .types
+  counted-types = p .looked .counted .types
 
   pub type-tested : tagRank (r .tag) ≡ 3 → Types.Tested r
   type-tested e = let t = passed-told (typeOf r) (is-type r e) in record { whole = t .whole; values = t .values }
@@ -99,26 +100,24 @@ module _ (s rs ts : List ℕ) (k : Counts) (rest : List ℕ) (p : Passed s rs ts
 
   -- ---- tests 13 and 14
 
-  module _ (w : Writer) (T : List ℕ) where
-    pub type-fitness : tagRank (r .tag) ≡ 3 → (q : ℕ) → q ≡ unless (shapeAvailable (availableFrom s (k .available)) (shapeOf (Defined.typeFields (r .tag) (r .body) (nameEnd (r .body) 0) .value))) 14 0 → FitnessTold s rs ts k rest w T q
+  module _ (v : Available) (w : Writer) (T : List ℕ) where
+    pub type-fitness : tagRank (r .tag) ≡ 3 → (q : ℕ) → ((o : Option (List ℕ)) → Flagged o v → q ≡ unless (shapeAvailable o (shapeOf (Defined.typeFields (r .tag) (r .body) (nameEnd (r .body) 0) .value))) 14 0) → FitnessTold s rs ts k v rest w T q
     unfolding fitnessTest
-    type-fitness e q d n b S x h =
-        d ∙ ap (λ (a : Option (List ℕ)). unless (shapeAvailable a (shapeOf (Defined.typeFields (r .tag) (r .body) (nameEnd (r .body) 0) .value))) 14 0) (sym (b .available))
-        ∙ sym (ap (λ (f : Fields Entry). fitnessTest n x (f .value)) (is-type r e))
+    type-fitness e q d n b S x h = d (n .available) (b .available) ∙ sym (ap (λ (f : Fields Entry). fitnessTest n x (f .value)) (is-type r e))
 
-    pub constant-fitness : tagRank (r .tag) ≡ 4 → (q : ℕ) (a : Bool) → q ≡ unless a 13 0 → ((S : List ℕ) (x : State) → Held w T S x → a ≡ constantFits (typesFrom s ts (k .types)) x (Defined.constantFields (r .tag) (r .body) .value)) → FitnessTold s rs ts k rest w T q
+    pub constant-fitness : tagRank (r .tag) ≡ 4 → (q : ℕ) (a : Bool) → q ≡ unless a 13 0 → ((S : List ℕ) (x : State) → Held w T S x → a ≡ constantFits (typesFrom s ts (k .types)) x (Defined.constantFields (r .tag) (r .body) .value)) → FitnessTold s rs ts k v rest w T q
     unfolding fitnessTest
     constant-fitness e q a d c n b S x h =
         d ∙ ap (λ (y : Bool). unless y 13 0) (c S x h ∙ ap (λ (us : List Defined.TypeEntry). constantFits us x (Defined.constantFields (r .tag) (r .body) .value)) (sym (b .looked .types)))
         ∙ sym (ap (λ (f : Fields Entry). fitnessTest n x (f .value)) (is-constant r e))
 
-    pub global-fitness : tagRank (r .tag) ≡ 5 → (q : ℕ) (a : Bool) → q ≡ unless a 13 0 → ((S : List ℕ) (x : State) → Held w T S x → a ≡ globalFits (typesFrom s ts (k .types)) x (Defined.globalFields (r .body) (nameEnd (r .body) 0) .value)) → FitnessTold s rs ts k rest w T q
+    pub global-fitness : tagRank (r .tag) ≡ 5 → (q : ℕ) (a : Bool) → q ≡ unless a 13 0 → ((S : List ℕ) (x : State) → Held w T S x → a ≡ globalFits (typesFrom s ts (k .types)) x (Defined.globalFields (r .body) (nameEnd (r .body) 0) .value)) → FitnessTold s rs ts k v rest w T q
     unfolding fitnessTest
     global-fitness e q a d c n b S x h =
         d ∙ ap (λ (y : Bool). unless y 13 0) (c S x h ∙ ap (λ (us : List Defined.TypeEntry). globalFits us x (Defined.globalFields (r .body) (nameEnd (r .body) 0) .value)) (sym (b .looked .types)))
         ∙ sym (ap (λ (f : Fields Entry). fitnessTest n x (f .value)) (is-global r e))
 
-    pub other-fitness : (q : ℕ) → q ≡ tagRank (r .tag) → (q ≡ 3 → ⊥) → (q ≡ 4 → ⊥) → (q ≡ 5 → ⊥) → FitnessTold s rs ts k rest w T 0
+    pub other-fitness : (q : ℕ) → q ≡ tagRank (r .tag) → (q ≡ 3 → ⊥) → (q ≡ 4 → ⊥) → (q ≡ 5 → ⊥) → FitnessTold s rs ts k v rest w T 0
     unfolding fitnessTest
     other-fitness q e f g i n b S x h = other (λ (y : Entry). 0 ≡ fitnessTest n x y) (λ cs. refl) (λ m. refl) q e f g i
 
@@ -131,14 +130,14 @@ module _ (s rs ts : List ℕ) (k : Counts) (rest : List ℕ) (p : Passed s rs ts
     pub type-written : tagRank (r .tag) ≡ 3 → (debug : Bool) → debug ≡ eqb (flags % 2) 1 → Kept (recordCost l) (declareType debug (typesFrom s ts (k .types)) (recordType r)) w T S v T′ S′ → EntryWritten s rs ts k rest flags w T S v T′ S′
     type-written e debug d q = record {
       grown = rw e (q .grown);
-      held = λ n b x h. let u = sym (b .looked .types) in subst (Held v T′ S′)
+      held = λ n b x h. let u = sym (b .types) in subst (Held v T′ S′)
           ((λ i. declareType (d i) (u i) (recordType r) x) ∙ sym (ap (λ (f : Fields Entry). declareEntry (optionsOf flags) n (f .value) x) (is-type r e))) (q .held x h);
     }
 
     pub constant-written : tagRank (r .tag) ≡ 4 → ConstantWritten (recordCost l) (typesFrom s ts (k .types)) (Defined.constantFields (r .tag) (r .body) .value) w T S v T′ S′ → EntryWritten s rs ts k rest flags w T S v T′ S′
     constant-written e q = record {
       grown = rw e (q .grown);
-      held = λ n b x h. let u = sym (b .looked .types) in subst (Held v T′ S′)
+      held = λ n b x h. let u = sym (b .types) in subst (Held v T′ S′)
           ((λ i. declareConstant (u i) (Defined.constantFields (r .tag) (r .body) .value) x) ∙ sym (ap (λ (f : Fields Entry). declareEntry (optionsOf flags) n (f .value) x) (is-constant r e))) (q .held x h);
     }
 
@@ -146,7 +145,7 @@ module _ (s rs ts : List ℕ) (k : Counts) (rest : List ℕ) (p : Passed s rs ts
     global-written e q = record {
       grown = rw e (q .grown);
       held = λ n b x h. subst (Held v T′ S′)
-          (sym (ap (λ (f : Fields Entry). declareEntry (optionsOf flags) n (f .value) x) (is-global r e))) (q .held n (b .looked .types) (b .looked .remaps) x h);
+          (sym (ap (λ (f : Fields Entry). declareEntry (optionsOf flags) n (f .value) x) (is-global r e))) (q .held n (b .types) (b .remaps) x h);
     }
 
   pub other-written : (flags : ℕ) (w : Writer) (T S : List ℕ) (q : ℕ) → q ≡ tagRank (r .tag) → (q ≡ 3 → ⊥) → (q ≡ 4 → ⊥) → (q ≡ 5 → ⊥) → EntryWritten s rs ts k rest flags w T S w T S
@@ -159,10 +158,15 @@ module _ (s rs ts : List ℕ) (k : Counts) (rest : List ℕ) (p : Passed s rs ts
       still = omega arith
 
 -- a type's fields are those of its record
-pub type-told : (s : List ℕ) (p : Place) (rest : List ℕ) (t : ℕ) (b : List ℕ) (i : TypeInner) (r : Bool) → t ≡ recordAt rest .tag → b ≡ recordAt rest .body
-    → Taken t b (nameEnd b 0) i → ((b′ : List ℕ) (n : ℕ) → r ≡ shapeAvailable (availableFrom s p) (shapeOf (innerOf b′ n i)))
+pub type-told : (o : Option (List ℕ)) (rest : List ℕ) (t : ℕ) (b : List ℕ) (i : TypeInner) (r : Bool) → t ≡ recordAt rest .tag → b ≡ recordAt rest .body
+    → Taken t b (nameEnd b 0) i → ((b′ : List ℕ) (n : ℕ) → r ≡ shapeAvailable o (shapeOf (innerOf b′ n i)))
     → innerFits (Defined.typeFields (recordAt rest .tag) (recordAt rest .body) (nameEnd (recordAt rest .body) 0) .value) ≡ true
-    → r ≡ shapeAvailable (availableFrom s p) (shapeOf (Defined.typeFields (recordAt rest .tag) (recordAt rest .body) (nameEnd (recordAt rest .body) 0) .value))
-type-told s p rest t b i r et eb k e f =
-    e b (nameEnd b 0) ∙ ap (λ (x : Defined.TypeInner). shapeAvailable (availableFrom s p) (shapeOf x)) (k (rw (et, eb) f))
-    ∙ (λ j. shapeAvailable (availableFrom s p) (shapeOf (Defined.typeFields (et j) (eb j) (nameEnd (eb j) 0) .value)))
+    → r ≡ shapeAvailable o (shapeOf (Defined.typeFields (recordAt rest .tag) (recordAt rest .body) (nameEnd (recordAt rest .body) 0) .value))
+type-told o rest t b i r et eb k e f =
+    e b (nameEnd b 0) ∙ ap (λ (x : Defined.TypeInner). shapeAvailable o (shapeOf x)) (k (rw (et, eb) f))
+    ∙ (λ j. shapeAvailable o (shapeOf (Defined.typeFields (et j) (eb j) (nameEnd (eb j) 0) .value)))
+
+-- of a record's type nothing is checked, if nothing is of its tag
+pub type-unchecked : (o : Option (List ℕ)) (rest : List ℕ) (t : ℕ) → t ≡ recordAt rest .tag → ((b : List ℕ) (n : ℕ) → shapeAvailable o (shapeOf (Defined.typeFields t b n .value)) ≡ true)
+    → 0 ≡ unless (shapeAvailable o (shapeOf (Defined.typeFields (recordAt rest .tag) (recordAt rest .body) (nameEnd (recordAt rest .body) 0) .value))) 14 0
+type-unchecked o rest t e h = ap (λ (b : Bool). unless b 14 0) (sym (rw e at (h (recordAt rest .body) (nameEnd (recordAt rest .body) 0))))

@@ -12,18 +12,20 @@ use Rattle.definition.specs.Rules.{declareEntry}
 use Rattle.definition.specs.Unfit.{fitnessTest}
 use Rattle.definition.specs.Operations.{recordTest}
 use Rattle.records.specs.declared.Counts.{Counts}
-use Rattle.records.specs.Places.{typesFrom, availableFrom}
+use Rattle.records.specs.Places.{typesFrom}
 use Rattle.sheet.specs.Reading.{Looked, Stored}
 use Rattle.zeroable.specs.Memo.{Memo}
+use Rattle.availability.specs.declared.Available.{Available}
+use Rattle.availability.specs.Flags.{Flagged}
 use Rattle.writer.specs.declared.Writer.{Writer}
 use Rattle.writer.specs.Cost.{Cost, nothing, recordCost}
 use Rattle.writer.specs.Held.{Held, Room, Grown}
 use Rattle.sheet_writer.specs.declared.Turn.{Turn}
 
 -- n is what was read: its counts, remaps and types, and what is available
-pub record Before (s rs ts : List ℕ) (k : Counts) (n : Seen) : Type 0 where
+pub record Before (s rs ts : List ℕ) (k : Counts) (a : Available) (n : Seen) : Type 0 where
   pub looked : Looked s rs ts k n
-  pub available : n .available ≡ availableFrom s (k .available)
+  pub available : Flagged (n .available) a
 
 -- a record of n bytes and a rank: Available and Remap are not declared
 abbrev pub entryCost : ℕ → ℕ → Cost
@@ -37,7 +39,7 @@ costAt rest = entryCost (tagRank (recordAt rest .tag)) (length (recordAt rest .b
 -- record if it passes
 pub record Ready (s rs ts : List ℕ) (k : Counts) (rest T S m : List ℕ) (w : Writer) : Type 0 where
   pub seen : Seen
-  pub before : Before s rs ts k seen
+  pub looked : Looked s rs ts k seen
   pub stored : Stored s rs ts k
   pub few : k .types ≤ 256
   pub small : length rest ≤ 16384
@@ -48,20 +50,20 @@ pub record Ready (s rs ts : List ℕ) (k : Counts) (rest T S m : List ℕ) (w : 
 -- the record at the front of what is left passed tests 5 to 12
 pub record Passed (s rs ts : List ℕ) (k : Counts) (rest : List ℕ) : Type 0 where
   pub seen : Seen
-  pub before : Before s rs ts k seen
+  pub looked : Looked s rs ts k seen
   pub tested : readingTest seen (recordAt rest) ≡ 0
 
 -- tests 13 and 14, in whatever state is held
-abbrev pub FitnessTold : List ℕ → List ℕ → List ℕ → Counts → List ℕ → Writer → List ℕ → ℕ → Type 0
-FitnessTold s rs ts k rest w T r = (n : Seen) → Before s rs ts k n → (S : List ℕ) (x : State) → Held w T S x → r ≡ fitnessTest n x (entryOf (recordAt rest) .value)
+abbrev pub FitnessTold : List ℕ → List ℕ → List ℕ → Counts → Available → List ℕ → Writer → List ℕ → ℕ → Type 0
+FitnessTold s rs ts k a rest w T r = (n : Seen) → Before s rs ts k a n → (S : List ℕ) (x : State) → Held w T S x → r ≡ fitnessTest n x (entryOf (recordAt rest) .value)
 
 -- the record's entry is declared
 pub record EntryWritten (s rs ts : List ℕ) (k : Counts) (rest : List ℕ) (flags : ℕ) (w : Writer) (T S : List ℕ) (v : Writer) (T′ S′ : List ℕ) : Type 0 where
   pub grown : Grown (costAt rest) w v
-  pub held : (n : Seen) → Before s rs ts k n → (x : State) → Held w T S x → Held v T′ S′ (declareEntry (optionsOf flags) n (entryOf (recordAt rest) .value) x)
+  pub held : (n : Seen) → Looked s rs ts k n → (x : State) → Held w T S x → Held v T′ S′ (declareEntry (optionsOf flags) n (entryOf (recordAt rest) .value) x)
 
 -- the turn whole: the number that the definition's test answers, and where that is 0 the entry is declared
-pub record Turned (s rs ts : List ℕ) (k : Counts) (rest : List ℕ) (flags : ℕ) (w : Writer) (T S : List ℕ) (r : Turn) (T′ S′ m′ : List ℕ) : Type 0 where
+pub record Turned (s rs ts : List ℕ) (k : Counts) (a : Available) (rest : List ℕ) (flags : ℕ) (w : Writer) (T S : List ℕ) (r : Turn) (T′ S′ m′ : List ℕ) : Type 0 where
   pub memo : Memo (typesFrom s ts (k .types)) m′
-  pub told : (n : Seen) → Before s rs ts k n → (x : State) → Held w T S x → r .refused ≡ recordTest (record { seen = n; state = x }) (recordAt rest)
+  pub told : (n : Seen) → Before s rs ts k a n → (x : State) → Held w T S x → r .refused ≡ recordTest (record { seen = n; state = x }) (recordAt rest)
   pub written : r .refused ≡ 0 → EntryWritten s rs ts k rest flags w T S (r .writer) T′ S′

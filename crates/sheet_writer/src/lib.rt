@@ -1,12 +1,14 @@
 // The records of a sheet, each tested in the state that those before it left and then declared: what all three operations
 // share. It decides refusals in document 01's order: 13 at one record comes before 5 at the next. 15 is left to the operations.
+use availability::Available;
 use records::Counts;
-use records::Place;
 use sheet::holding;
 use writer::Writer;
 ghost use mathlib.Core.Path.{_≡_};
 ghost use mathlib.Core.Bool.{true};
-ghost use Prim.Native.Nat.{_≤_};
+ghost use mathlib.Core.List.{List};
+ghost use mathlib.Core.Option.{Option};
+ghost use Prim.Native.Nat.{ℕ, _≤_};
 ghost use lib.ListN.{length};
 ghost use Rattle.definition.specs.Choice.{unless};
 ghost use Rattle.definition.specs.Bytes.{nameEnd};
@@ -14,8 +16,9 @@ ghost use Rattle.definition.specs.Sheet.{recordAt, typeFields};
 ghost use Rattle.definition.specs.Tests.{innerFits};
 ghost use Rattle.definition.specs.Shapes.{shapeOf};
 ghost use Rattle.definition.specs.Unfit.{shapeAvailable};
-ghost use Rattle.records.specs.Places.{typesFrom, availableFrom, placesOf, Ample};
+ghost use Rattle.records.specs.Places.{typesFrom, placesOf, Ample};
 ghost use Rattle.zeroable.specs.Memo.{Memo};
+ghost use Rattle.availability.specs.Flags.{Flagged};
 ghost use Rattle.writer.specs.Cost.{nothing};
 ghost use Rattle.writer.specs.Held.{RoomIn, Room};
 ghost use Rattle.sheet_writer.specs.Turning.{costAt, Ready, Passed, FitnessTold, EntryWritten, Turned};
@@ -34,12 +37,16 @@ pub enum Outcome {
 }
 
 // Test 14 of a type.
-fn type_test(s: &[u8], available: Place, rest: &[u8]) -> u8
+fn type_test(available: Available, rest: &[u8]) -> u8
     requires { ⌜ innerFits (typeFields (recordAt (now rest) .tag) (recordAt (now rest) .body) (nameEnd (recordAt (now rest) .body) 0) .value) ≡ true ⌝ }
-    ensures { λ r. ⌜ r ≡ unless (shapeAvailable (availableFrom (now (s .entry)) available) (shapeOf (typeFields (recordAt (now (rest .entry)) .tag) (recordAt (now (rest .entry)) .body) (nameEnd (recordAt (now (rest .entry)) .body) 0) .value))) 14 0 ⌝ }
+    ensures { λ r. ⌜ ((o : Option (List ℕ)) → Flagged o available → r ≡ unless (shapeAvailable o (shapeOf (typeFields (recordAt (now (rest .entry)) .tag) (recordAt (now (rest .entry)) .body) (nameEnd (recordAt (now (rest .entry)) .body) 0) .value))) 14 0) ⌝ }
 {
-    let t = entries::types::inner_of(records::tag_of(rest), records::body_of(rest));
-    if !availability::type_available(s, available, t) {
+    let tag = records::tag_of(rest);
+    if !availability::is_checked(tag) {
+        return 0;
+    }
+    let t = entries::types::inner_of(tag, records::body_of(rest));
+    if !availability::type_available(available, t) {
         return 14;
     }
     0
@@ -64,16 +71,14 @@ fn fitness_test(
     remaps: &[u32],
     types: &[u32],
     k: Counts,
+    available: Available,
     rest: &[u8],
 ) -> u8
     requires { ⌜ Passed (now s) (now remaps) (now types) k (now rest) × ((k .types ≤ length (now types)) × ((length (now rest) ≤ 16384) × (RoomIn nothing w (now tables) × Memo (typesFrom (now s) (now types) (k .types)) (now memo)))) ⌝ }
-    ensures { λ r. ⌜ FitnessTold (now (s .entry)) (now (remaps .entry)) (now (types .entry)) k (now (rest .entry)) w (now (tables .entry)) r × Memo (typesFrom (now (s .entry)) (now (types .entry)) (k .types)) (now (memo .exit)) ⌝ }
+    ensures { λ r. ⌜ FitnessTold (now (s .entry)) (now (remaps .entry)) (now (types .entry)) k available (now (rest .entry)) w (now (tables .entry)) r × Memo (typesFrom (now (s .entry)) (now (types .entry)) (k .types)) (now (memo .exit)) ⌝ }
 {
     match records::rank_of(records::tag_of(rest)) {
-        3 => {
-            let available = k.available;
-            type_test(s, available, rest)
-        }
+        3 => type_test(available, rest),
         4 => unfit(writer_constants::constant_fits(tables, w, s, types, k.types, memo, rest)),
         5 => unfit(writer_globals::fitness::global_fits(tables, w, s, types, k.types, memo, rest)),
         _ => 0,
@@ -133,11 +138,12 @@ fn record_turn(
     remaps: &[u32],
     types: &[u32],
     k: Counts,
+    available: Available,
     rest: &[u8],
     flags: u8,
 ) -> Turn
     requires { ⌜ Ready (now s) (now remaps) (now types) k (now rest) (now tables) (now sections) (now memo) w ⌝ }
-    ensures { λ r. ⌜ Turned (now (s .entry)) (now (remaps .entry)) (now (types .entry)) k (now (rest .entry)) flags w (now (tables .entry)) (now (sections .entry)) r (now (tables .exit)) (now (sections .exit)) (now (memo .exit)) ⌝ }
+    ensures { λ r. ⌜ Turned (now (s .entry)) (now (remaps .entry)) (now (types .entry)) k available (now (rest .entry)) flags w (now (tables .entry)) (now (sections .entry)) r (now (tables .exit)) (now (sections .exit)) (now (memo .exit)) ⌝ }
 {
     let r = sheet::record_test(s, remaps, types, k, rest);
     if r != 0 {
@@ -146,7 +152,7 @@ fn record_turn(
             writer: w,
         };
     }
-    let f = fitness_test(tables, memo, w, s, remaps, types, k, rest);
+    let f = fitness_test(tables, memo, w, s, remaps, types, k, available, rest);
     if f != 0 {
         return Turn {
             refused: f,
@@ -186,18 +192,32 @@ pub fn write_sheet(
     let mut w = writer::new(nrecords, nbytes, fields::u32_at(s, 1) as u64);
     let mut at = records::HEADER;
     let mut k = holding::nothing();
+    let mut available = availability::everything();
     while at < s.len() {
         let rest = records::rest_at(s, at);
         if records::no_record(rest) {
             return Outcome::Refused(4);
         }
-        let t = record_turn(tables, sections, memo, w, s, remaps, types, k, rest, flags);
+        let t = record_turn(
+            tables,
+            sections,
+            memo,
+            w,
+            s,
+            remaps,
+            types,
+            k,
+            available,
+            rest,
+            flags,
+        );
         let r = t.refused;
         if r != 0 {
             return Outcome::Refused(r);
         }
         let v = t.writer;
         w = v;
+        available = availability::behind(available, rest);
         k = holding::hold(s, remaps, types, constants, globals, k, at);
         at = records::next_place(rest, at);
     }

@@ -21,19 +21,19 @@ global-fits-requires c κs = let a = c .before .before .before .before .before .
 
 returns : tie.Need-returns
 returns c = let a = c .before .before .before .before .before .before .before .before .before .before .args in let e = ap tagRank (sym (c .before .before .before .tag-of .ensures)) ∙ sym (c .before .before .rank-of .ensures) ∙ c .before .match .keys1 in
-    (type-fitness (now (a .s)) (now (a .remaps)) (now (a .types)) (a .k) (now (a .rest)) (c .before .before .before .before .before .before .before .before .before .before .pre .0) (a .w) (now (a .tables)) e (c .type-test .result) (c .type-test .ensures), c .before .before .before .before .before .before .before .before .before .before .pre .1 .1 .1 .1)
+    (type-fitness (now (a .s)) (now (a .remaps)) (now (a .types)) (a .k) (now (a .rest)) (c .before .before .before .before .before .before .before .before .before .before .pre .0) (a .available) (a .w) (now (a .tables)) e (c .type-test .result) (c .type-test .ensures), c .before .before .before .before .before .before .before .before .before .before .pre .1 .1 .1 .1)
 
 returns-2 : tie.Need-returns-2
 returns-2 c = let a = c .before .before .before .before .before .before .before .before .before .before .before .before .before .before .args in let e = ap tagRank (sym (c .before .before .before .before .before .before .before .tag-of .ensures)) ∙ sym (c .before .before .before .before .before .before .rank-of .ensures) ∙ c .before .before .before .before .before .match .keys2 in
-    (constant-fitness (now (a .s)) (now (a .remaps)) (now (a .types)) (a .k) (now (a .rest)) (c .before .before .before .before .before .before .before .before .before .before .before .before .before .before .pre .0) (a .w) (now (a .tables)) e (c .unfit .result) (c .before .before .before .constant-fits .result) (c .unfit .ensures) (c .before .before .before .constant-fits .ensures .0), c .before .before .before .constant-fits .ensures .1)
+    (constant-fitness (now (a .s)) (now (a .remaps)) (now (a .types)) (a .k) (now (a .rest)) (c .before .before .before .before .before .before .before .before .before .before .before .before .before .before .pre .0) (a .available) (a .w) (now (a .tables)) e (c .unfit .result) (c .before .before .before .constant-fits .result) (c .unfit .ensures) (c .before .before .before .constant-fits .ensures .0), c .before .before .before .constant-fits .ensures .1)
 
 returns-3 : tie.Need-returns-3
 returns-3 c = let a = c .before .before .before .before .before .before .before .before .before .before .before .before .before .before .args in let e = ap tagRank (sym (c .before .before .before .before .before .before .before .tag-of .ensures)) ∙ sym (c .before .before .before .before .before .before .rank-of .ensures) ∙ c .before .before .before .before .before .match .keys3 in
-    (global-fitness (now (a .s)) (now (a .remaps)) (now (a .types)) (a .k) (now (a .rest)) (c .before .before .before .before .before .before .before .before .before .before .before .before .before .before .pre .0) (a .w) (now (a .tables)) e (c .unfit2 .result) (c .before .before .before .global-fits .result) (c .unfit2 .ensures) (c .before .before .before .global-fits .ensures .held), c .before .before .before .global-fits .ensures .memo)
+    (global-fitness (now (a .s)) (now (a .remaps)) (now (a .types)) (a .k) (now (a .rest)) (c .before .before .before .before .before .before .before .before .before .before .before .before .before .before .pre .0) (a .available) (a .w) (now (a .tables)) e (c .unfit2 .result) (c .before .before .before .global-fits .result) (c .unfit2 .ensures) (c .before .before .before .global-fits .ensures .held), c .before .before .before .global-fits .ensures .memo)
 
 returns-4 : tie.Need-returns-4
 returns-4 c = let a = c .before .before .before .before .before .before .before .before .before .args in let q = c .before .rank-of .ensures ∙ ap tagRank (c .before .before .tag-of .ensures) in
-    (other-fitness (now (a .s)) (now (a .remaps)) (now (a .types)) (a .k) (now (a .rest)) (c .before .before .before .before .before .before .before .before .before .pre .0) (a .w) (now (a .tables)) (c .before .rank-of .result) q (c .match .rest .0 .0 .1) (c .match .rest .0 .1) (c .match .rest .1), c .before .before .before .before .before .before .before .before .before .pre .1 .1 .1 .1)
+    (other-fitness (now (a .s)) (now (a .remaps)) (now (a .types)) (a .k) (now (a .rest)) (c .before .before .before .before .before .before .before .before .before .pre .0) (a .available) (a .w) (now (a .tables)) (c .before .rank-of .result) q (c .match .rest .0 .0 .1) (c .match .rest .0 .1) (c .match .rest .1), c .before .before .before .before .before .before .before .before .before .pre .1 .1 .1 .1)
 
 pub fitness-test-spec : {M : Type 1} → statement M
 fitness-test-spec =

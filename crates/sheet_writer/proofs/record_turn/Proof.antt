@@ -9,24 +9,24 @@ use Rattle.sheet_writer.proofs.record_turn.Tie as tie
 
 returns : tie.Need-returns
 returns c = let a = c .before .before .before .before .before .before .before .before .before .args in let r = c .before .record-test in
-    record { memo = c .before .before .before .before .before .before .before .before .before .pre .memo; told = read-first (now (a .s)) (now (a .remaps)) (now (a .types)) (a .k) (now (a .rest)) (a .w) (a .tables .now) (a .sections .now) (r .result) (r .ensures) (c .if1 .taken); written = λ z. absurd (c .if1 .taken z) }
+    record { memo = c .before .before .before .before .before .before .before .before .before .pre .memo; told = read-first (now (a .s)) (now (a .remaps)) (now (a .types)) (a .k) (a .available) (now (a .rest)) (a .w) (a .tables .now) (a .sections .now) (r .result) (r .ensures) (c .if1 .taken); written = λ z. absurd (c .if1 .taken z) }
 
 fitness-test-requires : tie.Need-fitness-test-requires
 fitness-test-requires c κs = let r = c .before .before .before .record-test in
-    (record { seen = c .before .before .before .before .before .before .before .before .before .before .before .pre .seen; before = c .before .before .before .before .before .before .before .before .before .before .before .pre .before; tested = sym (r .ensures (c .before .before .before .before .before .before .before .before .before .before .before .pre .seen) (c .before .before .before .before .before .before .before .before .before .before .before .pre .before .looked)) ∙ c .before .before .if1 .left }, (omega (arith, c .before .before .before .before .before .before .before .before .before .before .before .pre .stored .types), (c .before .before .before .before .before .before .before .before .before .before .before .pre .small, (c .before .before .before .before .before .before .before .before .before .before .before .pre .no-room .rows, c .before .before .before .before .before .before .before .before .before .before .before .pre .memo))))
+    (record { seen = c .before .before .before .before .before .before .before .before .before .before .before .pre .seen; looked = c .before .before .before .before .before .before .before .before .before .before .before .pre .looked; tested = sym (r .ensures (c .before .before .before .before .before .before .before .before .before .before .before .pre .seen) (c .before .before .before .before .before .before .before .before .before .before .before .pre .looked)) ∙ c .before .before .if1 .left }, (omega (arith, c .before .before .before .before .before .before .before .before .before .before .before .pre .stored .types), (c .before .before .before .before .before .before .before .before .before .before .before .pre .small, (c .before .before .before .before .before .before .before .before .before .before .before .pre .no-room .rows, c .before .before .before .before .before .before .before .before .before .before .before .pre .memo))))
 
 returns-2 : tie.Need-returns-2
 returns-2 c = let a = c .before .before .before .before .before .before .before .before .before .before .before .before .before .before .before .args in let r = c .before .before .before .before .before .before .before .record-test in let f = c .before .before .before .fitness-test in
-    record { memo = f .ensures .1; told = then-fits (now (a .s)) (now (a .remaps)) (now (a .types)) (a .k) (now (a .rest)) (a .w) (a .tables .now) (a .sections .now) (r .result) (f .result) (r .ensures) (c .before .before .before .before .before .before .if1 .left) (f .ensures .0); written = λ z. absurd (c .if2 .taken z) }
+    record { memo = f .ensures .1; told = then-fits (now (a .s)) (now (a .remaps)) (now (a .types)) (a .k) (a .available) (now (a .rest)) (a .w) (a .tables .now) (a .sections .now) (r .result) (f .result) (r .ensures) (c .before .before .before .before .before .before .if1 .left) (f .ensures .0); written = λ z. absurd (c .if2 .taken z) }
 
 write-entry-requires : tie.Need-write-entry-requires
 write-entry-requires c κs = let r = c .before .before .before .before .before .before .before .before .before .record-test in
-    let z = sym (r .ensures (c .before .before .before .before .before .before .before .before .before .before .before .before .before .before .before .before .before .pre .seen) (c .before .before .before .before .before .before .before .before .before .before .before .before .before .before .before .before .before .pre .before .looked)) ∙ c .before .before .before .before .before .before .before .before .if1 .left in
-    (record { seen = c .before .before .before .before .before .before .before .before .before .before .before .before .before .before .before .before .before .pre .seen; before = c .before .before .before .before .before .before .before .before .before .before .before .before .before .before .before .before .before .pre .before; tested = z }, (c .before .before .before .before .before .before .before .before .before .before .before .before .before .before .before .before .before .pre .stored .remaps, (omega (arith, c .before .before .before .before .before .before .before .before .before .before .before .before .before .before .before .before .before .pre .stored .types), (c .before .before .before .before .before .before .before .before .before .before .before .before .before .before .before .before .before .pre .few, (c .before .before .before .before .before .before .before .before .before .before .before .before .before .before .before .before .before .pre .small, c .before .before .before .before .before .before .before .before .before .before .before .before .before .before .before .before .before .pre .room z)))))
+    let z = sym (r .ensures (c .before .before .before .before .before .before .before .before .before .before .before .before .before .before .before .before .before .pre .seen) (c .before .before .before .before .before .before .before .before .before .before .before .before .before .before .before .before .before .pre .looked)) ∙ c .before .before .before .before .before .before .before .before .if1 .left in
+    (record { seen = c .before .before .before .before .before .before .before .before .before .before .before .before .before .before .before .before .before .pre .seen; looked = c .before .before .before .before .before .before .before .before .before .before .before .before .before .before .before .before .before .pre .looked; tested = z }, (c .before .before .before .before .before .before .before .before .before .before .before .before .before .before .before .before .before .pre .stored .remaps, (omega (arith, c .before .before .before .before .before .before .before .before .before .before .before .before .before .before .before .before .before .pre .stored .types), (c .before .before .before .before .before .before .before .before .before .before .before .before .before .before .before .before .before .pre .few, (c .before .before .before .before .before .before .before .before .before .before .before .before .before .before .before .before .before .pre .small, c .before .before .before .before .before .before .before .before .before .before .before .before .before .before .before .before .before .pre .room z)))))
 
 returns-3 : tie.Need-returns-3
 returns-3 c = let a = c .before .before .before .before .before .before .before .before .before .before .before .before .before .before .before .before .before .before .before .before .before .before .args in let r = c .before .before .before .before .before .before .before .before .before .before .before .before .before .before .record-test in let f = c .before .before .before .before .before .before .before .before .before .before .fitness-test in let v = c .before .before .before .before .write-entry in
-    record { memo = f .ensures .1; told = λ n b x h. sym (c .before .before .before .before .before .before .before .if2 .left) ∙ then-fits (now (a .s)) (now (a .remaps)) (now (a .types)) (a .k) (now (a .rest)) (a .w) (a .tables .now) (a .sections .now) (r .result) (f .result) (r .ensures) (c .before .before .before .before .before .before .before .before .before .before .before .before .before .if1 .left) (f .ensures .0) n b x h; written = λ z. v .ensures }
+    record { memo = f .ensures .1; told = λ n b x h. sym (c .before .before .before .before .before .before .before .if2 .left) ∙ then-fits (now (a .s)) (now (a .remaps)) (now (a .types)) (a .k) (a .available) (now (a .rest)) (a .w) (a .tables .now) (a .sections .now) (r .result) (f .result) (r .ensures) (c .before .before .before .before .before .before .before .before .before .before .before .before .before .if1 .left) (f .ensures .0) n b x h; written = λ z. v .ensures }
 
 pub record-turn-spec : {M : Type 1} → statement M
 record-turn-spec =
