@@ -45,6 +45,7 @@ pub fn run(bytes: &[u8]) -> Answer {
     let mut index = 0;
     while let Some((record, after)) = next_record(rest) {
         if let Some(entered) = reader.enter(&mut options, record) {
+            reader.keep(&entered);
             let w = writer.get_or_insert_with(|| empty_writer(&options, bytes));
             match reader.write(w, &entered) {
                 Ok(_) => {}
@@ -77,7 +78,9 @@ impl<'a> Ready<'a> {
         let mut entered = Vec::new();
         let mut rest = &bytes[HEADER..];
         while let Some((record, after)) = next_record(rest) {
-            entered.extend(reader.enter(&mut options, record));
+            let next = reader.enter(&mut options, record);
+            next.iter().for_each(|entered| reader.keep(entered));
+            entered.extend(next);
             rest = after;
         }
         Ready { bytes, options, reader, entered }
@@ -90,6 +93,26 @@ impl<'a> Ready<'a> {
         }
         writer.reference_words()
     }
+}
+
+/// The words of a sheet that Check need not fit, for tests/panics: it is entered as a whole, and a reference names the
+/// entry of its index, whether that is there or not. Then each record's function is called, which may panic.
+#[cfg(whole)]
+pub fn run_whole(bytes: &[u8]) -> Result<Vec<u32>, spv::Error> {
+    let mut options = options(bytes);
+    let mut reader = Reader::new(constants_of(bytes));
+    reader.name_all();
+    let mut entered = Vec::new();
+    let mut rest = &bytes[HEADER..];
+    while let Some((record, after)) = next_record(rest) {
+        entered.extend(reader.enter(&mut options, record));
+        rest = after;
+    }
+    let mut writer = empty_writer(&options, bytes);
+    for entered in &entered {
+        reader.write(&mut writer, entered)?;
+    }
+    Ok(writer.reference_words())
 }
 
 /// The options that the sheet's header gives.
@@ -272,18 +295,13 @@ impl Reader {
             }
             Record::Type(t) => {
                 let ty = naga::Type { name: name(t.name), inner: self.inner(t.inner) };
-                let handle = self.module.types.insert(ty, Span::default());
-                assert_eq!(handle.index(), self.types.len(), "12 refuses a repeated type");
-                self.types.push(handle);
-                Entered::Type(handle)
+                Entered::Type(self.module.types.insert(ty, Span::default()))
             }
             Record::Constant(c) => {
                 let resolution = self.resolution(&c);
-                self.info.set_constant(self.constants.len(), resolution);
+                self.info.set_constant(self.module.const_expressions.len(), resolution);
                 let expression = self.expression(c);
-                let handle = self.module.const_expressions.append(expression, Span::default());
-                self.constants.push(handle);
-                Entered::Constant(handle)
+                Entered::Constant(self.module.const_expressions.append(expression, Span::default()))
             }
             Record::Global(g) => {
                 let global = naga::GlobalVariable {
@@ -294,11 +312,34 @@ impl Reader {
                     ty: self.ty(g.ty),
                     init: (g.init != NO_INIT).then(|| self.constant(g.init)),
                 };
-                let handle = self.module.global_variables.append(global, Span::default());
-                self.globals.push(handle);
-                Entered::Global(handle)
+                Entered::Global(self.module.global_variables.append(global, Span::default()))
             }
         })
+    }
+
+    /// Keeps the handle of what was entered, for references to it.
+    fn keep(&mut self, entered: &Entered) {
+        match *entered {
+            Entered::Type(handle) => {
+                assert_eq!(handle.index(), self.types.len(), "12 refuses a repeated type");
+                self.types.push(handle);
+            }
+            Entered::Constant(handle) => self.constants.push(handle),
+            Entered::Global(handle) => self.globals.push(handle),
+        }
+    }
+
+    /// A handle for each index that a reference can name. A handle is a number and no more, so that those of other
+    /// arenas serve.
+    #[cfg(whole)]
+    fn name_all(&mut self) {
+        let (mut types, mut constants) = (naga::Arena::new(), naga::Arena::new());
+        for _ in 0..=u16::MAX {
+            let ty = naga::Type { name: None, inner: TypeInner::RayQuery };
+            self.types.push(types.append(ty, Span::default()));
+            let constant = Expression::Literal(naga::Literal::Bool(true));
+            self.constants.push(constants.append(constant, Span::default()));
+        }
     }
 
     /// The function that document 01 names for a record.
@@ -392,24 +433,52 @@ impl Reader {
     /// read; for the others it is left as a handle to no purpose.
     fn resolution(&self, constant: &Constant) -> TypeResolution {
         match *constant {
-            Constant::Splat { size, value } => {
-                let (kind, width) = self.scalar(self.constant(value));
-                TypeResolution::Value(TypeInner::Vector { size: vector_size(size), kind, width })
-            }
+            Constant::Splat { size, value } => match self.scalar(self.constant(value)) {
+                Some((kind, width)) => TypeResolution::Value(TypeInner::Vector {
+                    size: vector_size(size),
+                    kind,
+                    width,
+                }),
+                None => self.no_scalar(self.constant(value)),
+            },
             _ => TypeResolution::Handle(self.unread),
         }
     }
 
     /// The scalar of a literal or of a zero of Scalar type, aliases followed.
-    fn scalar(&self, handle: Handle<Expression>) -> (naga::ScalarKind, u8) {
-        match self.module.const_expressions[handle] {
-            Expression::Literal(literal) => (literal.scalar_kind(), literal.width()),
+    fn scalar(&self, handle: Handle<Expression>) -> Option<(naga::ScalarKind, u8)> {
+        match *self.module.const_expressions.try_get(handle).ok()? {
+            Expression::Literal(literal) => Some((literal.scalar_kind(), literal.width())),
             Expression::Constant(named) => self.scalar(self.module.constants[named].init),
             Expression::ZeroValue(ty) => match self.module.types[ty].inner {
-                TypeInner::Scalar { kind, width } => (kind, width),
-                _ => panic!("13 refuses a Splat of this"),
+                TypeInner::Scalar { kind, width } => Some((kind, width)),
+                _ => None,
             },
-            _ => panic!("13 refuses a Splat of this"),
+            _ => None,
         }
+    }
+
+    /// The type of a Splat of anything else: a sheet of the domain has none.
+    #[cfg(not(whole))]
+    fn no_scalar(&self, _: Handle<Expression>) -> TypeResolution {
+        panic!("13 refuses a Splat of this")
+    }
+
+    /// The type of a Splat of anything else: that of what is repeated, where it is there.
+    #[cfg(whole)]
+    fn no_scalar(&self, handle: Handle<Expression>) -> TypeResolution {
+        let ty = match self.module.const_expressions.try_get(handle) {
+            Ok(&Expression::ZeroValue(ty)) | Ok(&Expression::Compose { ty, .. }) => ty,
+            _ => return TypeResolution::Handle(self.unread),
+        };
+        TypeResolution::Value(match self.module.types[ty].inner {
+            TypeInner::Vector { size, kind, width } => TypeInner::Vector { size, kind, width },
+            TypeInner::Matrix { columns, rows, width } => {
+                TypeInner::Matrix { columns, rows, width }
+            }
+            TypeInner::Atomic { kind, width } => TypeInner::Atomic { kind, width },
+            // Of an aggregate the Rust only finds that it has no shape.
+            _ => TypeInner::Struct { members: Vec::new(), span: 0 },
+        })
     }
 }

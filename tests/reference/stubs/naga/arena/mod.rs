@@ -44,6 +44,8 @@ impl<T> UniqueArena<T> {
 
 impl<T> std::ops::Index<Handle<T>> for UniqueArena<T> {
     type Output = T;
+    // Where there is none, tests/panics wants the place that asked for it.
+    #[cfg_attr(whole, track_caller)]
     fn index(&self, handle: Handle<T>) -> &T {
         self.values.get_index(handle.index()).expect("a handle of this arena")
     }
