@@ -19,7 +19,7 @@ use Rattle.records.specs.declared.Counts.{Counts}
 use Rattle.records.specs.declared.Place.{Place}
 use Rattle.records.specs.declared.Place.the-variants.{Nowhere, At}
 use Rattle.definition.proofs.Truth.{pick-for, unless-zero, first-passed}
-use Rattle.sheet.specs.Hash.{hashOf, Hashed}
+use Rattle.sheet.specs.Hash.{HashFor, Hashed}
 use Rattle.sheet.specs.Holding.{typeNoted, notedAt, addCounts, Passed, Held}
 use Rattle.sheet.specs.Reading.{Looked, Stored}
 use Rattle.sheet.proofs.Hashes.{hashed-more}
@@ -97,7 +97,7 @@ one-more f l n at h = rw (add-one, take-suc-set l n at h) (map-snoc f (take n l)
 one-more-type : {A : Type 0} (f : ℕ → A) (l : List ℕ) (n at h : ℕ) → n < 256 → 512 ≤ length l → map f (take (n + 1) (typeNoted l n at h)) ≡ map f (take n l) ++ (f at ∷ [])
 one-more-type f l n at h few long = ap (map f) (take-set-le (n + 1) (set l n at) (256 + n) h (omega arith)) ∙ one-more f l n at (omega arith)
 
-module _ (s : List ℕ) (p : Places) (k : Counts) (at : ℕ) (a : Ample p) (f : WithinLimits k) (hs : Hashed s (p .types) (k .types)) (h : ℕ) (eh : h ≡ hashOf (recordFrom s at)) where
+module _ (s : List ℕ) (p : Places) (k : Counts) (at : ℕ) (a : Ample p) (f : WithinLimits k) (hs : Hashed s (p .types) (k .types)) (h : ℕ) (eh : HashFor (recordFrom s at) h) where
   abbrev n : Seen
   n = seenOf s p k
 
@@ -124,7 +124,7 @@ module _ (s : List ℕ) (p : Places) (k : Counts) (at : ℕ) (a : Ample p) (f : 
   adds-3 e q =
       let c = counted s p k a f in
       let l : k .types < 256 = rw (c .types) at (ltb-true (length (n .types)) 256 q) in
-      (simp (e, one-more-type (typeFrom s) (p .types) (k .types) at h l (a .types)), record { remaps = f .remaps; types = omega arith; constants = f .constants; globals = f .globals }, hashed-more s (p .types) (k .types) at h l (a .types) eh hs)
+      (simp (e, one-more-type (typeFrom s) (p .types) (k .types) at h l (a .types)), record { remaps = f .remaps; types = omega arith; constants = f .constants; globals = f .globals }, hashed-more s (p .types) (k .types) at h l (a .types) (eh e) hs)
 
   adds-4 : Adds 4
   unfolding notedAt addCounts addRecord add entryOf
@@ -147,7 +147,7 @@ module _ (s : List ℕ) (p : Places) (k : Counts) (at : ℕ) (a : Ample p) (f : 
       (rw e (q .ranked)) (rw e (rank-most (recordFrom s at .tag))) (sym e) (rw e (q .room))
 
 -- what `hold` leaves, in slices of the same lengths
-pub held : (s : List ℕ) (p p′ : Places) (k k′ : Counts) (at r h : ℕ) → Passed s p k at → r ≡ tagRank (recordFrom s at .tag) → h ≡ hashOf (recordFrom s at)
+pub held : (s : List ℕ) (p p′ : Places) (k k′ : Counts) (at r h : ℕ) → Passed s p k at → r ≡ tagRank (recordFrom s at .tag) → HashFor (recordFrom s at) h
     → p′ ≡ notedAt p k r at h → k′ ≡ addCounts k r at
     → length (p′ .remaps) ≡ length (p .remaps) → length (p′ .types) ≡ length (p .types)
     → length (p′ .constants) ≡ length (p .constants) → length (p′ .globals) ≡ length (p .globals)

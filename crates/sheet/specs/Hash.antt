@@ -5,7 +5,7 @@ use mathlib.Core.Path.{_≡_}
 use mathlib.Core.List.{List}
 use lib.ListN.{length, getD}
 use Rattle.definition.specs.Bytes.{u32At}
-use Rattle.definition.specs.Sheet.{Record}
+use Rattle.definition.specs.Sheet.{Record, tagRank}
 use Rattle.definition.specs.Tests.{typesMost}
 use Rattle.records.specs.Places.{recordFrom}
 
@@ -21,6 +21,10 @@ hashWords b h (suc n) = hashStep (hashWords b h n) (u32At b (4 * n))
 -- the tag, then all words of the body, the last of them filled up with zeros
 abbrev pub hashOf : Record → ℕ
 hashOf r = hashWords (r .body) (r .tag) (length (r .body) / 4 + 1)
+
+-- h is the hash of a record that is a type; of any other it says nothing
+abbrev pub HashFor : Record → ℕ → Type 0
+HashFor r h = tagRank (r .tag) ≡ 3 → h ≡ hashOf r
 
 -- behind the places of the first n types stand their hashes
 abbrev pub Hashed : List ℕ → List ℕ → ℕ → Type 0

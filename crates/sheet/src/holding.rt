@@ -1,15 +1,13 @@
 // What is held of the records that were read: their places in the slices of their kind, the types' hashes, and counts.
-use crate::hash::hash_of;
 use records::Counts;
 use records::Place;
 use records::TYPES_MOST;
 ghost use mathlib.Core.Path.{_≡_};
 ghost use Prim.Native.Nat.{_<_, _≤_};
 ghost use lib.ListN.{set};
-ghost use Rattle.definition.specs.Sheet.{recordAt};
 ghost use Rattle.definition.specs.Tests.{typesMost};
-ghost use Rattle.records.specs.Places.{placesOf, WithinLimits};
-ghost use Rattle.sheet.specs.Hash.{hashOf};
+ghost use Rattle.records.specs.Places.{placesOf, recordFrom, WithinLimits};
+ghost use Rattle.sheet.specs.Hash.{HashFor};
 ghost use Rattle.sheet.specs.Holding.{noCounts, typeNoted, notedAt, addCounts, Passed, Held};
 
 pub fn nothing() -> Counts
@@ -35,17 +33,16 @@ fn put(places: &mut [u32], n: usize, at: usize)
     }
 }
 
-// Keeps the place and the hash of the n-th type, which stands at the front of what is left.
-fn note_type(types: &mut [u32], n: usize, rest: &[u8], at: usize)
+// Keeps the place and the hash of the n-th type.
+fn note_type(types: &mut [u32], n: usize, at: usize, hash: u32)
     requires { ⌜ (n ≤ typesMost) × (at < 4294967296) ⌝ }
-    ensures { λ r. ⌜ now (types .exit) ≡ typeNoted (now (types .entry)) n at (hashOf (recordAt (now (rest .entry)))) ⌝ }
+    ensures { λ r. ⌜ now (types .exit) ≡ typeNoted (now (types .entry)) n at hash ⌝ }
 {
-    let hash = hash_of(records::tag_of(rest), records::body_of(rest));
     put(types, n, at);
     put(types, TYPES_MOST + n, hash as usize);
 }
 
-// Keeps the place of a record of rank r, which stands at the front of what is left.
+// Keeps the place of a record of rank r, and a type's hash.
 fn note(
     remaps: &mut [u32],
     types: &mut [u32],
@@ -53,15 +50,15 @@ fn note(
     globals: &mut [u32],
     k: Counts,
     r: u8,
-    rest: &[u8],
     at: usize,
+    hash: u32,
 )
     requires { ⌜ WithinLimits k × (at < 4294967296) ⌝ }
-    ensures { λ x. ⌜ placesOf (now (remaps .exit)) (now (types .exit)) (now (constants .exit)) (now (globals .exit)) ≡ notedAt (placesOf (now (remaps .entry)) (now (types .entry)) (now (constants .entry)) (now (globals .entry))) k r at (hashOf (recordAt (now (rest .entry)))) ⌝ }
+    ensures { λ x. ⌜ placesOf (now (remaps .exit)) (now (types .exit)) (now (constants .exit)) (now (globals .exit)) ≡ notedAt (placesOf (now (remaps .entry)) (now (types .entry)) (now (constants .entry)) (now (globals .entry))) k r at hash ⌝ }
 {
     match r {
         2 => put(remaps, k.remaps, at),
-        3 => note_type(types, k.types, rest, at),
+        3 => note_type(types, k.types, at, hash),
         4 => put(constants, k.constants, at),
         5 => put(globals, k.globals, at),
         _ => {}
@@ -103,7 +100,7 @@ fn added(mut k: Counts, r: u8, at: usize) -> Counts
     }
 }
 
-// Holds the record at a place, which passed its tests, with what was held before.
+// Holds the record at a place, which passed its tests, with what was held before; a type's hash is given.
 pub fn hold(
     sheet: &[u8],
     remaps: &mut [u32],
@@ -112,12 +109,13 @@ pub fn hold(
     globals: &mut [u32],
     k: Counts,
     at: usize,
+    hash: u32,
 ) -> Counts
-    requires { ⌜ Passed (now sheet) (placesOf (now remaps) (now types) (now constants) (now globals)) k at ⌝ }
+    requires { ⌜ Passed (now sheet) (placesOf (now remaps) (now types) (now constants) (now globals)) k at × HashFor (recordFrom (now sheet) at) hash ⌝ }
     ensures { λ r. ⌜ Held (now (sheet .entry)) (placesOf (now (remaps .entry)) (now (types .entry)) (now (constants .entry)) (now (globals .entry))) k at (placesOf (now (remaps .exit)) (now (types .exit)) (now (constants .exit)) (now (globals .exit))) r ⌝ }
 {
     let rest = records::rest_at(sheet, at);
     let rank = records::rank_of(records::tag_of(rest));
-    note(remaps, types, constants, globals, k, rank, rest, at);
+    note(remaps, types, constants, globals, k, rank, at, hash);
     added(k, rank, at)
 }

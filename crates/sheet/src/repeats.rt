@@ -1,7 +1,6 @@
 // Test 12: a type equal to an earlier one in name and all fields, or a remap of a group and binding already remapped.
 // A record that passed test 8 is its fields, each in its one form, so types are equal if their tags and bodies are.
 use crate::bodies::same_up_to;
-use crate::hash::hash_of;
 use records::Counts;
 use records::TYPES_MOST;
 ghost use mathlib.Core.Path.{_≡_};
@@ -12,7 +11,7 @@ ghost use Rattle.definition.specs.Sheet.{remapFields, entryOf};
 ghost use Rattle.definition.specs.Tests.{Seen, typesMost, typeRead, remapRead, repeated};
 ghost use Rattle.records.specs.Places.{typeFrom, remapFrom};
 ghost use Rattle.sheet_fields.specs.Fields.{recordOf};
-ghost use Rattle.sheet.specs.Hash.{Hashed, Unlike};
+ghost use Rattle.sheet.specs.Hash.{hashOf, HashFor, Hashed, Unlike};
 ghost use Rattle.sheet.specs.Reading.{Looked, Stored};
 
 const STRUCT: u8 = 23;
@@ -70,13 +69,12 @@ fn next_alike(types: &[u32], i: usize, n: usize, h: u32) -> usize
     n
 }
 
-// Whether one of the first n types has tag t and body b: the search is left at the first that is equal, and a type at the first
-// member that differs. Hashes, in which nearly all differ, are compared before all else.
-fn type_read(s: &[u8], types: &[u32], n: usize, t: u8, b: &[u8]) -> bool
-    requires { ⌜ (typesMost + n ≤ length (now types)) × Hashed (now s) (now types) n ⌝ }
+// Whether one of the first n types has tag t and body b, of which the hash is given: the search is left at the first that is equal,
+// and a type at the first member that differs. Hashes, in which nearly all differ, are compared before all else.
+fn type_read(s: &[u8], types: &[u32], n: usize, t: u8, b: &[u8], hash: u32) -> bool
+    requires { ⌜ (typesMost + n ≤ length (now types)) × (Hashed (now s) (now types) n × (hash ≡ hashOf (recordOf t (now b)))) ⌝ }
     ensures { λ r. ⌜ r ≡ typeRead (recordOf t (now (b .entry))) (map (typeFrom (now (s .entry))) (take n (now (types .entry)))) ⌝ }
 {
-    let hash = hash_of(t, b);
     let fixed = fixed_end(t, b);
     let mut read = false;
     let mut i = 0;
@@ -137,14 +135,22 @@ fn remap_read(s: &[u8], remaps: &[u32], n: usize, b: &[u8]) -> bool
 }
 
 // Test 12 of a record of tag t and body b.
-pub fn is_repeated(s: &[u8], remaps: &[u32], types: &[u32], k: Counts, t: u8, b: &[u8]) -> bool
-    requires { ⌜ Stored (now s) (now remaps) (now types) k ⌝ }
+pub fn is_repeated(
+    s: &[u8],
+    remaps: &[u32],
+    types: &[u32],
+    k: Counts,
+    t: u8,
+    b: &[u8],
+    hash: u32,
+) -> bool
+    requires { ⌜ Stored (now s) (now remaps) (now types) k × HashFor (recordOf t (now b)) hash ⌝ }
     ensures { λ r. ⌜ ((n : Seen) → Looked (now (s .entry)) (now (remaps .entry)) (now (types .entry)) k n → r ≡ repeated n (entryOf (recordOf t (now (b .entry))) .value)) ⌝ }
 {
     match records::rank_of(t) {
         1 => false,
         2 => remap_read(s, remaps, k.remaps, b),
-        3 => type_read(s, types, k.types, t, b),
+        3 => type_read(s, types, k.types, t, b, hash),
         4 => false,
         _ => false,
     }

@@ -20,7 +20,7 @@ use Rattle.records.specs.declared.Counts.{Counts}
 use Rattle.records.specs.Places.{Places, seenOf, Ample, WithinLimits, recordFrom}
 use Rattle.records.proofs.Places.{header-size, whole}
 use Rattle.records.proofs.Loop.{Going, start, goes-on, next-inside, ends-fit, ends-four, ends-refused, judge-go}
-use Rattle.sheet.specs.Hash.{Hashed}
+use Rattle.sheet.specs.Hash.{HashFor, Hashed}
 use Rattle.sheet.specs.Holding.{noCounts, addCounts, Passed, Held as Kept}
 use Rattle.sheet.proofs.Adding.{looked, stored, counted, placed-of, rank-most}
 use Rattle.zeroable.specs.Memo.{Memo}
@@ -165,11 +165,12 @@ module _ (s T₀ S₀ m₀ : List ℕ) (p₀ : Places) (nr nb : ℕ) (T S m : Li
           roomy s T S nr nb at k w (h .used) (h .few) (cap .for-bytes (h .small)) (cap .for-records) (omega (arith, cap .tables, h .tables)) (omega (arith, cap .sections, h .sections)) (h .small)
           (seenOf s p k) (counted s p k (h .ample) (h .few)) l (omega arith) inside (tagRank (recordAt rest .tag)) (q .ranked) (rank-most (recordAt rest .tag)) (q .room)
 
-      pub ready : Ready s (p .remaps) (p .types) k rest T S m w
-      ready = record {
+      pub ready : (i : ℕ) → HashFor (recordAt rest) i → Ready s (p .remaps) (p .types) k rest i T S m w
+      ready i hi = record {
         seen = seenOf s p k;
         looked = looked s p k (h .ample) (h .few);
         stored = stored s p k (h .ample) (h .few) (h .hashed);
+        hash = hi;
         few = h .few .types;
         small = bytes-left;
         memo = h .memo;

@@ -13,6 +13,7 @@ use Rattle.definition.specs.Unfit.{fitnessTest}
 use Rattle.definition.specs.Operations.{recordTest}
 use Rattle.records.specs.declared.Counts.{Counts}
 use Rattle.records.specs.Places.{typesFrom}
+use Rattle.sheet.specs.Hash.{HashFor}
 use Rattle.sheet.specs.Reading.{Looked, Stored}
 use Rattle.zeroable.specs.Memo.{Memo}
 use Rattle.availability.specs.declared.Available.{Available}
@@ -35,12 +36,13 @@ entryCost rank n = pick (ltb 2 rank) (recordCost n) nothing
 abbrev pub costAt : List ℕ → Cost
 costAt rest = entryCost (tagRank (recordAt rest .tag)) (length (recordAt rest .body) + 3)
 
--- what a turn asks: something was read before and stands in the slices, the memo speaks of its types, and there is room for the
--- record if it passes
-pub record Ready (s rs ts : List ℕ) (k : Counts) (rest T S m : List ℕ) (w : Writer) : Type 0 where
+-- what a turn asks: something was read before and stands in the slices, h is the record's hash if it is a type, the memo speaks of
+-- the types read, and there is room for the record if it passes
+pub record Ready (s rs ts : List ℕ) (k : Counts) (rest : List ℕ) (h : ℕ) (T S m : List ℕ) (w : Writer) : Type 0 where
   pub seen : Seen
   pub looked : Looked s rs ts k seen
   pub stored : Stored s rs ts k
+  pub hash : HashFor (recordAt rest) h
   pub few : k .types ≤ 256
   pub small : length rest ≤ 16384
   pub memo : Memo (typesFrom s ts (k .types)) m

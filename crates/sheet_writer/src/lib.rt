@@ -2,6 +2,7 @@
 // share. It decides refusals in document 01's order: 13 at one record comes before 5 at the next. 15 is left to the operations.
 use availability::Available;
 use records::Counts;
+use sheet::hash;
 use sheet::holding;
 use writer::Writer;
 ghost use mathlib.Core.Path.{_≡_};
@@ -128,7 +129,7 @@ fn write_entry(
     }
 }
 
-// The turn of the record at the front of what is left: tests 5 to 14, then its declaration.
+// The turn of the record at the front of what is left: tests 5 to 14, then its declaration. A type's hash is given.
 fn record_turn(
     tables: &mut [u64],
     sections: &mut [u32],
@@ -140,12 +141,13 @@ fn record_turn(
     k: Counts,
     available: Available,
     rest: &[u8],
+    hash: u32,
     flags: u8,
 ) -> Turn
-    requires { ⌜ Ready (now s) (now remaps) (now types) k (now rest) (now tables) (now sections) (now memo) w ⌝ }
+    requires { ⌜ Ready (now s) (now remaps) (now types) k (now rest) hash (now tables) (now sections) (now memo) w ⌝ }
     ensures { λ r. ⌜ Turned (now (s .entry)) (now (remaps .entry)) (now (types .entry)) k available (now (rest .entry)) flags w (now (tables .entry)) (now (sections .entry)) r (now (tables .exit)) (now (sections .exit)) (now (memo .exit)) ⌝ }
 {
-    let r = sheet::record_test(s, remaps, types, k, rest);
+    let r = sheet::record_test(s, remaps, types, k, rest, hash);
     if r != 0 {
         return Turn {
             refused: r,
@@ -198,6 +200,7 @@ pub fn write_sheet(
         if records::no_record(rest) {
             return Outcome::Refused(4);
         }
+        let hash = hash::hash_at(rest);
         let t = record_turn(
             tables,
             sections,
@@ -209,6 +212,7 @@ pub fn write_sheet(
             k,
             available,
             rest,
+            hash,
             flags,
         );
         let r = t.refused;
@@ -218,7 +222,7 @@ pub fn write_sheet(
         let v = t.writer;
         w = v;
         available = availability::behind(available, rest);
-        k = holding::hold(s, remaps, types, constants, globals, k, at);
+        k = holding::hold(s, remaps, types, constants, globals, k, at, hash);
         at = records::next_place(rest, at);
     }
     Outcome::Fit(k, w)

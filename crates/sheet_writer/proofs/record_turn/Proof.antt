@@ -28,8 +28,11 @@ returns-3 : tie.Need-returns-3
 returns-3 c = let a = c .before .before .before .before .before .before .before .before .before .before .before .before .before .before .before .before .before .before .before .before .before .before .args in let r = c .before .before .before .before .before .before .before .before .before .before .before .before .before .before .record-test in let f = c .before .before .before .before .before .before .before .before .before .before .fitness-test in let v = c .before .before .before .before .write-entry in
     record { memo = f .ensures .1; told = λ n b x h. sym (c .before .before .before .before .before .before .before .if2 .left) ∙ then-fits (now (a .s)) (now (a .remaps)) (now (a .types)) (a .k) (a .available) (now (a .rest)) (a .w) (a .tables .now) (a .sections .now) (r .result) (f .result) (r .ensures) (c .before .before .before .before .before .before .before .before .before .before .before .before .before .if1 .left) (f .ensures .0) n b x h; written = λ z. v .ensures }
 
+record-test-requires : tie.Need-record-test-requires
+record-test-requires c κs = (c .before .before .before .before .before .before .before .pre .stored, c .before .before .before .before .before .before .before .pre .hash)
+
 pub record-turn-spec : {M : Type 1} → statement M
 record-turn-spec =
     tie.close
-    (tie.spec (λ c κs. search needs) returns fitness-test-requires (λ c. search needs) (λ c. search needs) returns-2
+    (tie.spec record-test-requires returns fitness-test-requires (λ c. search needs) (λ c. search needs) returns-2
     write-entry-requires (λ c. search needs) (λ c. search needs) (λ c. search needs) returns-3)

@@ -2,6 +2,8 @@
 -- what is left of the sheet. Each way out and the turn is one law of Loop, to whose form what the callees ensure is brought.
 use Rattle.sheet_writer.proofs.Loop.{Holds, begins, fits, four, ready, refuses, passed, turns}
 use Rattle.sheet_writer.specs.Turning.{Turned}
+use Rattle.definition.specs.Sheet.{recordAt}
+use Rattle.sheet.specs.Hash.{HashFor}
 use Rattle.records.proofs.Loop.{judge-stop}
 use Rattle.records.specs.Places.{placesOf}
 use lib.ListN.{length}
@@ -9,6 +11,7 @@ use denote.Ref.{now}
 use Prim.Native.Nat.{ℕ, _-_}
 use native.Mathlib.Omega.{arith}
 use mathlib.Core.Path.{sym, _∙_, subst}
+use mathlib.Core.List.{List}
 use borrow.Author.Needs.{needs}
 use Rattle.sheet_writer.proofs.write_sheet.Statement.{statement}
 use Rattle.sheet_writer.proofs.write_sheet.Tie as tie
@@ -34,36 +37,38 @@ returns-2 c = let a = c .before .before .before .before .before .before .before 
     (c .before .before .before .loop-test .taken) (now (c .before .before .rest-at .result)) (c .before .before .rest-at .ensures) (sym (c .before .no-record .ensures) ∙ c .if2 .taken)
 
 record-turn-requires : tie.Need-record-turn-requires Inv-loop μ-loop
-record-turn-requires c κs = let a = c .before .before .before .before .before .before .before .before .before .before .before .before .before .before .before .before .before .before .before .before .before .before .before .before .before .args in let l = c .before .before .before .before .before .before .before .before .before .loop in
-    ready (now (a .s)) (a .tables .now) (a .sections .now) (a .memo .now) (placesOf (a .remaps .now) (a .types .now) (a .constants .now) (a .globals .now)) (a .nrecords) (a .nbytes) (l .tables) (l .sections) (l .memo) (placesOf (l .remaps) (l .types) (l .constants) (l .globals)) (l .at) (l .k) (l .available) (l .w) (l .inv) (c .before .before .before .before .before .before .before .before .before .before .before .before .before .before .before .before .before .before .before .before .before .before .before .before .before .pre .0) (sym (c .before .before .before .before .before .before .before .before .before .before .before .before .before .before .before .before .header-test .ensures) ∙ c .before .before .before .before .before .before .before .before .before .before .before .before .before .before .before .if1 .left)
-    (c .before .before .before .before .before .before .before .before .loop-test .taken) (now (c .before .before .before .before .before .before .before .rest-at .result)) (c .before .before .before .before .before .before .before .rest-at .ensures) (sym (c .before .before .before .before .before .before .no-record .ensures) ∙ c .before .before .before .before .before .if2 .left)
+record-turn-requires c κs = let a = c .before .before .before .before .before .before .before .before .before .before .before .before .before .before .before .before .before .before .before .before .before .before .before .before .before .before .args in let l = c .before .before .before .before .before .before .before .before .before .before .loop in
+    ready (now (a .s)) (a .tables .now) (a .sections .now) (a .memo .now) (placesOf (a .remaps .now) (a .types .now) (a .constants .now) (a .globals .now)) (a .nrecords) (a .nbytes) (l .tables) (l .sections) (l .memo) (placesOf (l .remaps) (l .types) (l .constants) (l .globals)) (l .at) (l .k) (l .available) (l .w) (l .inv) (c .before .before .before .before .before .before .before .before .before .before .before .before .before .before .before .before .before .before .before .before .before .before .before .before .before .before .pre .0) (sym (c .before .before .before .before .before .before .before .before .before .before .before .before .before .before .before .before .before .header-test .ensures) ∙ c .before .before .before .before .before .before .before .before .before .before .before .before .before .before .before .before .if1 .left)
+    (c .before .before .before .before .before .before .before .before .before .loop-test .taken) (now (c .before .before .before .before .before .before .before .before .rest-at .result)) (c .before .before .before .before .before .before .before .before .rest-at .ensures) (sym (c .before .before .before .before .before .before .before .no-record .ensures) ∙ c .before .before .before .before .before .before .if2 .left) (c .before .before .before .before .before .hash-at .result) (c .before .before .before .before .before .hash-at .ensures)
 
 returns-3 : tie.Need-returns-3 Inv-loop μ-loop
-returns-3 c = let a = c .before .before .before .before .before .before .before .before .before .before .before .before .before .before .before .before .before .before .before .before .before .before .before .before .before .before .before .before .before .before .before .before .before .args in let l = c .before .before .before .before .before .before .before .before .before .before .before .before .before .before .before .before .before .loop in let t = c .before .before .before .before .before .before .before .record-turn in
-    refuses (now (a .s)) (a .tables .now) (a .sections .now) (a .memo .now) (placesOf (a .remaps .now) (a .types .now) (a .constants .now) (a .globals .now)) (a .nrecords) (a .nbytes) (l .tables) (l .sections) (l .memo) (placesOf (l .remaps) (l .types) (l .constants) (l .globals)) (l .at) (l .k) (l .available) (l .w) (l .inv) (c .before .before .before .before .before .before .before .before .before .before .before .before .before .before .before .before .before .before .before .before .before .before .before .before .before .before .before .before .before .before .before .before .before .pre .0) (sym (c .before .before .before .before .before .before .before .before .before .before .before .before .before .before .before .before .before .before .before .before .before .before .before .before .header-test .ensures) ∙ c .before .before .before .before .before .before .before .before .before .before .before .before .before .before .before .before .before .before .before .before .before .before .before .if1 .left)
-    (c .before .before .before .before .before .before .before .before .before .before .before .before .before .before .before .before .loop-test .taken) (now (c .before .before .before .before .before .before .before .before .before .before .before .before .before .before .before .rest-at .result)) (c .before .before .before .before .before .before .before .before .before .before .before .before .before .before .before .rest-at .ensures) (sym (c .before .before .before .before .before .before .before .before .before .before .before .before .before .before .no-record .ensures) ∙ c .before .before .before .before .before .before .before .before .before .before .before .before .before .if2 .left)
+returns-3 c = let a = c .before .before .before .before .before .before .before .before .before .before .before .before .before .before .before .before .before .before .before .before .before .before .before .before .before .before .before .before .before .before .before .before .before .before .args in let l = c .before .before .before .before .before .before .before .before .before .before .before .before .before .before .before .before .before .before .loop in let t = c .before .before .before .before .before .before .before .record-turn in
+    refuses (now (a .s)) (a .tables .now) (a .sections .now) (a .memo .now) (placesOf (a .remaps .now) (a .types .now) (a .constants .now) (a .globals .now)) (a .nrecords) (a .nbytes) (l .tables) (l .sections) (l .memo) (placesOf (l .remaps) (l .types) (l .constants) (l .globals)) (l .at) (l .k) (l .available) (l .w) (l .inv) (c .before .before .before .before .before .before .before .before .before .before .before .before .before .before .before .before .before .before .before .before .before .before .before .before .before .before .before .before .before .before .before .before .before .before .pre .0) (sym (c .before .before .before .before .before .before .before .before .before .before .before .before .before .before .before .before .before .before .before .before .before .before .before .before .before .header-test .ensures) ∙ c .before .before .before .before .before .before .before .before .before .before .before .before .before .before .before .before .before .before .before .before .before .before .before .before .if1 .left)
+    (c .before .before .before .before .before .before .before .before .before .before .before .before .before .before .before .before .before .loop-test .taken) (now (c .before .before .before .before .before .before .before .before .before .before .before .before .before .before .before .before .rest-at .result)) (c .before .before .before .before .before .before .before .before .before .before .before .before .before .before .before .before .rest-at .ensures) (sym (c .before .before .before .before .before .before .before .before .before .before .before .before .before .before .before .no-record .ensures) ∙ c .before .before .before .before .before .before .before .before .before .before .before .before .before .before .if2 .left)
     (t .result) (t .last .0) (t .last .1 .0) (t .last .1 .1 .0)
-    (subst (λ (f : ℕ). Turned (now (a .s)) (l .remaps) (l .types) (l .k) (l .available) (now (c .before .before .before .before .before .before .before .before .before .before .before .before .before .before .before .rest-at .result)) f (l .w) (l .tables) (l .sections) (t .result) (t .last .0) (t .last .1 .0) (t .last .1 .1 .0)) (c .before .before .before .before .before .before .before .before .before .before .before .before .before .before .before .before .before .before .before .before .before .before .u8-at .ensures) (t .ensures)) (c .if3 .taken)
+    (subst (λ (f : ℕ). Turned (now (a .s)) (l .remaps) (l .types) (l .k) (l .available) (now (c .before .before .before .before .before .before .before .before .before .before .before .before .before .before .before .before .rest-at .result)) f (l .w) (l .tables) (l .sections) (t .result) (t .last .0) (t .last .1 .0) (t .last .1 .1 .0)) (c .before .before .before .before .before .before .before .before .before .before .before .before .before .before .before .before .before .before .before .before .before .before .before .u8-at .ensures) (t .ensures)) (c .if3 .taken)
 
 hold-requires : tie.Need-hold-requires Inv-loop μ-loop
-hold-requires c κs = let a = c .before .before .before .before .before .before .before .before .before .before .before .before .before .before .before .before .before .before .before .before .before .before .before .before .before .before .before .before .before .before .before .before .before .before .before .before .before .before .before .args in let l = c .before .before .before .before .before .before .before .before .before .before .before .before .before .before .before .before .before .before .before .before .before .before .before .loop in let t = c .before .before .before .before .before .before .before .before .before .before .before .before .before .record-turn in
-    passed (now (a .s)) (a .tables .now) (a .sections .now) (a .memo .now) (placesOf (a .remaps .now) (a .types .now) (a .constants .now) (a .globals .now)) (a .nrecords) (a .nbytes) (l .tables) (l .sections) (l .memo) (placesOf (l .remaps) (l .types) (l .constants) (l .globals)) (l .at) (l .k) (l .available) (l .w) (l .inv) (c .before .before .before .before .before .before .before .before .before .before .before .before .before .before .before .before .before .before .before .before .before .before .before .before .before .before .before .before .before .before .before .before .before .before .before .before .before .before .before .pre .0) (sym (c .before .before .before .before .before .before .before .before .before .before .before .before .before .before .before .before .before .before .before .before .before .before .before .before .before .before .before .before .before .before .header-test .ensures) ∙ c .before .before .before .before .before .before .before .before .before .before .before .before .before .before .before .before .before .before .before .before .before .before .before .before .before .before .before .before .before .if1 .left)
-    (c .before .before .before .before .before .before .before .before .before .before .before .before .before .before .before .before .before .before .before .before .before .before .loop-test .taken) (now (c .before .before .before .before .before .before .before .before .before .before .before .before .before .before .before .before .before .before .before .before .before .rest-at .result)) (c .before .before .before .before .before .before .before .before .before .before .before .before .before .before .before .before .before .before .before .before .before .rest-at .ensures) (sym (c .before .before .before .before .before .before .before .before .before .before .before .before .before .before .before .before .before .before .before .before .no-record .ensures) ∙ c .before .before .before .before .before .before .before .before .before .before .before .before .before .before .before .before .before .before .before .if2 .left)
-    (t .result) (t .last .0) (t .last .1 .0) (t .last .1 .1 .0)
-    (subst (λ (f : ℕ). Turned (now (a .s)) (l .remaps) (l .types) (l .k) (l .available) (now (c .before .before .before .before .before .before .before .before .before .before .before .before .before .before .before .before .before .before .before .before .before .rest-at .result)) f (l .w) (l .tables) (l .sections) (t .result) (t .last .0) (t .last .1 .0) (t .last .1 .1 .0)) (c .before .before .before .before .before .before .before .before .before .before .before .before .before .before .before .before .before .before .before .before .before .before .before .before .before .before .before .before .u8-at .ensures) (t .ensures)) (c .before .before .before .before .before .before .if3 .left)
+hold-requires c κs = let a = c .before .before .before .before .before .before .before .before .before .before .before .before .before .before .before .before .before .before .before .before .before .before .before .before .before .before .before .before .before .before .before .before .before .before .before .before .before .before .before .before .args in let l = c .before .before .before .before .before .before .before .before .before .before .before .before .before .before .before .before .before .before .before .before .before .before .before .before .loop in let t = c .before .before .before .before .before .before .before .before .before .before .before .before .before .record-turn in (
+  passed (now (a .s)) (a .tables .now) (a .sections .now) (a .memo .now) (placesOf (a .remaps .now) (a .types .now) (a .constants .now) (a .globals .now)) (a .nrecords) (a .nbytes) (l .tables) (l .sections) (l .memo) (placesOf (l .remaps) (l .types) (l .constants) (l .globals)) (l .at) (l .k) (l .available) (l .w) (l .inv) (c .before .before .before .before .before .before .before .before .before .before .before .before .before .before .before .before .before .before .before .before .before .before .before .before .before .before .before .before .before .before .before .before .before .before .before .before .before .before .before .before .pre .0) (sym (c .before .before .before .before .before .before .before .before .before .before .before .before .before .before .before .before .before .before .before .before .before .before .before .before .before .before .before .before .before .before .before .header-test .ensures) ∙ c .before .before .before .before .before .before .before .before .before .before .before .before .before .before .before .before .before .before .before .before .before .before .before .before .before .before .before .before .before .before .if1 .left)
+      (c .before .before .before .before .before .before .before .before .before .before .before .before .before .before .before .before .before .before .before .before .before .before .before .loop-test .taken) (now (c .before .before .before .before .before .before .before .before .before .before .before .before .before .before .before .before .before .before .before .before .before .before .rest-at .result)) (c .before .before .before .before .before .before .before .before .before .before .before .before .before .before .before .before .before .before .before .before .before .before .rest-at .ensures) (sym (c .before .before .before .before .before .before .before .before .before .before .before .before .before .before .before .before .before .before .before .before .before .no-record .ensures) ∙ c .before .before .before .before .before .before .before .before .before .before .before .before .before .before .before .before .before .before .before .before .if2 .left)
+      (t .result) (t .last .0) (t .last .1 .0) (t .last .1 .1 .0)
+      (subst (λ (f : ℕ). Turned (now (a .s)) (l .remaps) (l .types) (l .k) (l .available) (now (c .before .before .before .before .before .before .before .before .before .before .before .before .before .before .before .before .before .before .before .before .before .before .rest-at .result)) f (l .w) (l .tables) (l .sections) (t .result) (t .last .0) (t .last .1 .0) (t .last .1 .1 .0)) (c .before .before .before .before .before .before .before .before .before .before .before .before .before .before .before .before .before .before .before .before .before .before .before .before .before .before .before .before .before .u8-at .ensures) (t .ensures)) (c .before .before .before .before .before .before .if3 .left),
+  subst (λ (r : List ℕ). HashFor (recordAt r) (c .before .before .before .before .before .before .before .before .before .before .before .before .before .before .before .before .before .before .before .hash-at .result)) (c .before .before .before .before .before .before .before .before .before .before .before .before .before .before .before .before .before .before .before .before .before .before .rest-at .ensures) (c .before .before .before .before .before .before .before .before .before .before .before .before .before .before .before .before .before .before .before .hash-at .ensures),
+)
 
 next-place-requires : tie.Need-next-place-requires Inv-loop μ-loop
-next-place-requires c κs = omega (arith, c .before .before .before .before .before .before .before .before .before .before .before .before .before .before .before .before .before .before .before .before .before .before .before .before .before .before .before .before .before .before .before .before .loop .inv .small, c .before .before .before .before .before .before .before .before .before .before .before .before .before .before .before .before .before .before .before .before .before .before .before .before .before .before .before .before .before .before .before .loop-test .taken)
+next-place-requires c κs = omega (arith, c .before .before .before .before .before .before .before .before .before .before .before .before .before .before .before .before .before .before .before .before .before .before .before .before .before .before .before .before .before .before .before .before .before .loop .inv .small, c .before .before .before .before .before .before .before .before .before .before .before .before .before .before .before .before .before .before .before .before .before .before .before .before .before .before .before .before .before .before .before .before .loop-test .taken)
 
 loop-less : tie.Need-loop-less Inv-loop μ-loop
-loop-less c = let a = c .before .before .before .before .before .before .before .before .before .before .before .before .before .before .before .before .before .before .before .before .before .before .before .before .before .before .before .before .before .before .before .before .before .before .before .before .before .before .before .before .before .before .before .before .before .before .before .before .before .args in let l = c .before .before .before .before .before .before .before .before .before .before .before .before .before .before .before .before .before .before .before .before .before .before .before .before .before .before .before .before .before .before .before .before .before .loop in omega (arith, c .before .before .before .before .before .before .before .before .before .before .before .before .before .before .before .before .before .before .before .before .before .before .before .before .before .before .before .before .before .before .before .before .loop-test .taken, c .next-place .ensures)
+loop-less c = let a = c .before .before .before .before .before .before .before .before .before .before .before .before .before .before .before .before .before .before .before .before .before .before .before .before .before .before .before .before .before .before .before .before .before .before .before .before .before .before .before .before .before .before .before .before .before .before .before .before .before .before .args in let l = c .before .before .before .before .before .before .before .before .before .before .before .before .before .before .before .before .before .before .before .before .before .before .before .before .before .before .before .before .before .before .before .before .before .before .loop in omega (arith, c .before .before .before .before .before .before .before .before .before .before .before .before .before .before .before .before .before .before .before .before .before .before .before .before .before .before .before .before .before .before .before .before .before .loop-test .taken, c .next-place .ensures)
 
 loop-again : tie.Need-loop-again Inv-loop μ-loop
-loop-again c = let a = c .before .before .before .before .before .before .before .before .before .before .before .before .before .before .before .before .before .before .before .before .before .before .before .before .before .before .before .before .before .before .before .before .before .before .before .before .before .before .before .before .before .before .before .before .before .before .before .before .before .args in let l = c .before .before .before .before .before .before .before .before .before .before .before .before .before .before .before .before .before .before .before .before .before .before .before .before .before .before .before .before .before .before .before .before .before .loop in let t = c .before .before .before .before .before .before .before .before .before .before .before .before .before .before .before .before .before .before .before .before .before .before .before .record-turn in let f = c .before .before .before .before .before .before .before .before .before .hold in
-    turns (now (a .s)) (a .tables .now) (a .sections .now) (a .memo .now) (placesOf (a .remaps .now) (a .types .now) (a .constants .now) (a .globals .now)) (a .nrecords) (a .nbytes) (l .tables) (l .sections) (l .memo) (placesOf (l .remaps) (l .types) (l .constants) (l .globals)) (l .at) (l .k) (l .available) (l .w) (l .inv) (c .before .before .before .before .before .before .before .before .before .before .before .before .before .before .before .before .before .before .before .before .before .before .before .before .before .before .before .before .before .before .before .before .before .before .before .before .before .before .before .before .before .before .before .before .before .before .before .before .before .pre .0) (sym (c .before .before .before .before .before .before .before .before .before .before .before .before .before .before .before .before .before .before .before .before .before .before .before .before .before .before .before .before .before .before .before .before .before .before .before .before .before .before .before .before .header-test .ensures) ∙ c .before .before .before .before .before .before .before .before .before .before .before .before .before .before .before .before .before .before .before .before .before .before .before .before .before .before .before .before .before .before .before .before .before .before .before .before .before .before .before .if1 .left)
-    (c .before .before .before .before .before .before .before .before .before .before .before .before .before .before .before .before .before .before .before .before .before .before .before .before .before .before .before .before .before .before .before .before .loop-test .taken) (now (c .before .before .before .before .before .before .before .before .before .before .before .before .before .before .before .before .before .before .before .before .before .before .before .before .before .before .before .before .before .before .before .rest-at .result)) (c .before .before .before .before .before .before .before .before .before .before .before .before .before .before .before .before .before .before .before .before .before .before .before .before .before .before .before .before .before .before .before .rest-at .ensures) (sym (c .before .before .before .before .before .before .before .before .before .before .before .before .before .before .before .before .before .before .before .before .before .before .before .before .before .before .before .before .before .before .no-record .ensures) ∙ c .before .before .before .before .before .before .before .before .before .before .before .before .before .before .before .before .before .before .before .before .before .before .before .before .before .before .before .before .before .if2 .left)
+loop-again c = let a = c .before .before .before .before .before .before .before .before .before .before .before .before .before .before .before .before .before .before .before .before .before .before .before .before .before .before .before .before .before .before .before .before .before .before .before .before .before .before .before .before .before .before .before .before .before .before .before .before .before .before .args in let l = c .before .before .before .before .before .before .before .before .before .before .before .before .before .before .before .before .before .before .before .before .before .before .before .before .before .before .before .before .before .before .before .before .before .before .loop in let t = c .before .before .before .before .before .before .before .before .before .before .before .before .before .before .before .before .before .before .before .before .before .before .before .record-turn in let f = c .before .before .before .before .before .before .before .before .before .hold in
+    turns (now (a .s)) (a .tables .now) (a .sections .now) (a .memo .now) (placesOf (a .remaps .now) (a .types .now) (a .constants .now) (a .globals .now)) (a .nrecords) (a .nbytes) (l .tables) (l .sections) (l .memo) (placesOf (l .remaps) (l .types) (l .constants) (l .globals)) (l .at) (l .k) (l .available) (l .w) (l .inv) (c .before .before .before .before .before .before .before .before .before .before .before .before .before .before .before .before .before .before .before .before .before .before .before .before .before .before .before .before .before .before .before .before .before .before .before .before .before .before .before .before .before .before .before .before .before .before .before .before .before .before .pre .0) (sym (c .before .before .before .before .before .before .before .before .before .before .before .before .before .before .before .before .before .before .before .before .before .before .before .before .before .before .before .before .before .before .before .before .before .before .before .before .before .before .before .before .before .header-test .ensures) ∙ c .before .before .before .before .before .before .before .before .before .before .before .before .before .before .before .before .before .before .before .before .before .before .before .before .before .before .before .before .before .before .before .before .before .before .before .before .before .before .before .before .if1 .left)
+    (c .before .before .before .before .before .before .before .before .before .before .before .before .before .before .before .before .before .before .before .before .before .before .before .before .before .before .before .before .before .before .before .before .before .loop-test .taken) (now (c .before .before .before .before .before .before .before .before .before .before .before .before .before .before .before .before .before .before .before .before .before .before .before .before .before .before .before .before .before .before .before .before .rest-at .result)) (c .before .before .before .before .before .before .before .before .before .before .before .before .before .before .before .before .before .before .before .before .before .before .before .before .before .before .before .before .before .before .before .before .rest-at .ensures) (sym (c .before .before .before .before .before .before .before .before .before .before .before .before .before .before .before .before .before .before .before .before .before .before .before .before .before .before .before .before .before .before .before .no-record .ensures) ∙ c .before .before .before .before .before .before .before .before .before .before .before .before .before .before .before .before .before .before .before .before .before .before .before .before .before .before .before .before .before .before .if2 .left)
     (t .result) (t .last .0) (t .last .1 .0) (t .last .1 .1 .0)
-    (subst (λ (g : ℕ). Turned (now (a .s)) (l .remaps) (l .types) (l .k) (l .available) (now (c .before .before .before .before .before .before .before .before .before .before .before .before .before .before .before .before .before .before .before .before .before .before .before .before .before .before .before .before .before .before .before .rest-at .result)) g (l .w) (l .tables) (l .sections) (t .result) (t .last .0) (t .last .1 .0) (t .last .1 .1 .0)) (c .before .before .before .before .before .before .before .before .before .before .before .before .before .before .before .before .before .before .before .before .before .before .before .before .before .before .before .before .before .before .before .before .before .before .before .before .before .before .u8-at .ensures) (t .ensures)) (c .before .before .before .before .before .before .before .before .before .before .before .before .before .before .before .before .if3 .left)
+    (subst (λ (g : ℕ). Turned (now (a .s)) (l .remaps) (l .types) (l .k) (l .available) (now (c .before .before .before .before .before .before .before .before .before .before .before .before .before .before .before .before .before .before .before .before .before .before .before .before .before .before .before .before .before .before .before .before .rest-at .result)) g (l .w) (l .tables) (l .sections) (t .result) (t .last .0) (t .last .1 .0) (t .last .1 .1 .0)) (c .before .before .before .before .before .before .before .before .before .before .before .before .before .before .before .before .before .before .before .before .before .before .before .before .before .before .before .before .before .before .before .before .before .before .before .before .before .before .before .u8-at .ensures) (t .ensures)) (c .before .before .before .before .before .before .before .before .before .before .before .before .before .before .before .before .if3 .left)
     (placesOf (f .last .1 .0) (f .last .1 .1 .0) (f .last .1 .1 .1 .0) (f .last .1 .1 .1 .1 .0)) (f .result) (c .before .before .before .before .before .before .before .before .before .before .before .before .before .before .behind .result) (c .next-place .result) (f .ensures) (c .before .before .before .before .before .before .before .before .before .before .before .before .before .before .behind .ensures) (c .next-place .ensures)
     (t .kept .0) (t .kept .1 .0) (t .kept .1 .1 .0) (f .kept .1 .0) (f .kept .1 .1 .0) (f .kept .1 .1 .1 .0) (f .kept .1 .1 .1 .1 .0)
 
@@ -77,7 +82,8 @@ write-sheet-spec =
     (tie.spec Inv-loop μ-loop (λ c κs. search needs) returns (λ c κs. search needs) (λ c κs. search needs) (λ c. search needs)
     (λ c κs. search needs) (λ c κs. search needs) (λ c κs. search needs) loop-holds (λ c κs. search needs)
     (λ c κs. search needs) (λ c. search needs) (λ c. search needs) (λ c. search needs) (λ c. search needs) (λ c. search needs)
-    (λ c. search needs) (λ c. search needs) returns-2 record-turn-requires (λ c. search needs) (λ c. search needs)
-    (λ c. search needs) (λ c. search needs) (λ c. search needs) (λ c. search needs) (λ c. search needs) returns-3
-    (λ c κs. search needs) hold-requires next-place-requires loop-less loop-again (λ c. search needs) (λ c. search needs)
-    (λ c. search needs) (λ c. search needs) (λ c. search needs) (λ c. search needs) (λ c. search needs) returns-4)
+    (λ c. search needs) (λ c. search needs) returns-2 (λ c κs. search needs) record-turn-requires (λ c. search needs)
+    (λ c. search needs) (λ c. search needs) (λ c. search needs) (λ c. search needs) (λ c. search needs) (λ c. search needs)
+    returns-3 (λ c κs. search needs) hold-requires next-place-requires loop-less loop-again (λ c. search needs)
+    (λ c. search needs) (λ c. search needs) (λ c. search needs) (λ c. search needs) (λ c. search needs) (λ c. search needs)
+    returns-4)

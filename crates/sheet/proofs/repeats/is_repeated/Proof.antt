@@ -1,9 +1,13 @@
 -- Only a remap and a type can be repeated.
+use mathlib.Core.Path.{sym, _∙_}
 use borrow.Author.Tests.{ne-eqb}
 use borrow.Author.Needs.{needs}
 use Rattle.definition.specs.Sheet.{entryOf}
 use Rattle.sheet.proofs.repeats.is_repeated.Statement.{statement}
 use Rattle.sheet.proofs.repeats.is_repeated.Tie as tie
+
+type-read-requires : tie.Need-type-read-requires
+type-read-requires c κs = (c .before .before .before .before .before .before .pre .0 .types, (c .before .before .before .before .before .before .pre .0 .hashed, c .before .before .before .before .before .before .pre .1 (sym (c .before .rank-of .ensures) ∙ c .match .keys3)))
 
 returns : tie.Need-returns
 unfolding entryOf
@@ -28,4 +32,4 @@ returns-5 c = λ n l. simp (← c .before .rank-of .ensures, ne-eqb _ _ (c .matc
 pub is-repeated-spec : {M : Type 1} → statement M
 is-repeated-spec =
     tie.close
-    (tie.spec (λ c κs. search needs) (λ c κs. search needs) (λ c κs. search needs) returns returns-2 returns-3 returns-4 returns-5)
+    (tie.spec (λ c κs. search needs) (λ c κs. search needs) type-read-requires returns returns-2 returns-3 returns-4 returns-5)

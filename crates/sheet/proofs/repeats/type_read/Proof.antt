@@ -33,29 +33,29 @@ abbrev μ-entries : tie.MeasureT-entries
 
 -- the sheet, the places of the types, and the record that is looked for
 abbrev sheet : tie.In-entries Inv-loop μ-loop Inv-entries μ-entries → List ℕ
-sheet c = now (c .before .before .before .before .before .before .before .args .s)
+sheet c = now (c .before .before .before .before .before .before .args .s)
 
 abbrev places : tie.In-entries Inv-loop μ-loop Inv-entries μ-entries → List ℕ
-places c = now (c .before .before .before .before .before .before .before .args .types)
+places c = now (c .before .before .before .before .before .before .args .types)
 
 abbrev sought : tie.In-entries Inv-loop μ-loop Inv-entries μ-entries → Record
-sought c = recordOf (c .before .before .before .before .before .before .before .args .t) (now (c .before .before .before .before .before .before .before .args .b))
+sought c = recordOf (c .before .before .before .before .before .before .args .t) (now (c .before .before .before .before .before .before .args .b))
 
 -- the record at the entry's place
 abbrev here : tie.In-entries Inv-loop μ-loop Inv-entries μ-entries → Record
 here c = recordFrom (sheet c) (getD (places c) (c .before .entries .i) 0)
 
-room : (c : tie.In-entries Inv-loop μ-loop Inv-entries μ-entries) → c .before .before .before .before .before .before .before .args .n ≤ length (places c)
-room c = omega (arith, c .before .before .before .before .before .before .before .pre .0)
+room : (c : tie.In-entries Inv-loop μ-loop Inv-entries μ-entries) → c .before .before .before .before .before .before .args .n ≤ length (places c)
+room c = omega (arith, c .before .before .before .before .before .before .pre .0)
 
 -- another entry is passed over
 skips : (c : tie.In-entries Inv-loop μ-loop Inv-entries μ-entries) → sameRecord (here c) (sought c) ≡ false
-    → typeRead (sought c) (map (typeFrom (sheet c)) (take (c .before .before .before .before .before .before .before .args .n) (places c))) ≡ typeRead (sought c) (map (typeFrom (sheet c)) (drop (c .before .entries .i + 1) (take (c .before .before .before .before .before .before .before .args .n) (places c))))
-skips c e = c .before .entries .inv .1 .1 ∙ skip (search-types (sheet c) (sought c)) (places c) (c .before .before .before .before .before .before .before .args .n) (c .before .entries .i) (room c) (c .entries-test .taken) e
+    → typeRead (sought c) (map (typeFrom (sheet c)) (take (c .before .before .before .before .before .before .args .n) (places c))) ≡ typeRead (sought c) (map (typeFrom (sheet c)) (drop (c .before .entries .i + 1) (take (c .before .before .before .before .before .before .args .n) (places c))))
+skips c e = c .before .entries .inv .1 .1 ∙ skip (search-types (sheet c) (sought c)) (places c) (c .before .before .before .before .before .before .args .n) (c .before .entries .i) (room c) (c .entries-test .taken) e
 
 -- an entry with another hash is another
-unlike : (c : tie.In-entries Inv-loop μ-loop Inv-entries μ-entries) (j : ℕ) → j < c .before .before .before .before .before .before .before .args .n → (getD (places c) (256 + j) 0 ≡ c .before .before .before .hash-of .result → ⊥) → sameRecord (recordFrom (sheet c) (getD (places c) j 0)) (sought c) ≡ false
-unlike c j h d = other-hash _ (sought c) (λ q. d (c .before .before .before .before .before .before .before .pre .1 j h ∙ q ∙ sym (c .before .before .before .hash-of .ensures)))
+unlike : (c : tie.In-entries Inv-loop μ-loop Inv-entries μ-entries) (j : ℕ) → j < c .before .before .before .before .before .before .args .n → (getD (places c) (256 + j) 0 ≡ c .before .before .before .before .before .before .args .hash → ⊥) → sameRecord (recordFrom (sheet c) (getD (places c) j 0)) (sought c) ≡ false
+unlike c j h d = other-hash _ (sought c) (λ q. d (c .before .before .before .before .before .before .pre .1 .0 j h ∙ q ∙ sym (c .before .before .before .before .before .before .pre .1 .1)))
 
 -- the body is that of the record at the entry's place
 body-is : (c : tie.After-body-of Inv-loop μ-loop Inv-entries μ-entries) → now (c .body-of .result) ≡ here (c .before .before .before .before .before .before .before) .body
@@ -74,7 +74,7 @@ entries-again c = let k = c .before .before .before .before in let r = c .next-a
   (
     k .before .entries .inv .1 .0,
     skips k (unlike k (k .before .entries .i) (k .entries-test .taken) (c .before .if1 .taken))
-        ∙ skip-to (search-types (sheet k) (sought k)) (places k) (k .before .before .before .before .before .before .before .args .n) (k .before .entries .i + 1) r (room k) (c .next-alike .ensures .0) (c .next-alike .ensures .1 .0) (λ j lo hi. unlike k j (omega (arith, c .next-alike .ensures .1 .0)) (c .next-alike .ensures .1 .1 j lo hi)),
+        ∙ skip-to (search-types (sheet k) (sought k)) (places k) (k .before .before .before .before .before .before .args .n) (k .before .entries .i + 1) r (room k) (c .next-alike .ensures .0) (c .next-alike .ensures .1 .0) (λ j lo hi. unlike k j (omega (arith, c .next-alike .ensures .1 .0)) (c .next-alike .ensures .1 .1 j lo hi)),
   ),
 )
 
@@ -108,20 +108,20 @@ loop-again c = (c .before .before .member-end .ensures .1, (c .before .before .b
 
 returns : tie.Need-returns Inv-loop μ-loop Inv-entries μ-entries
 returns c =
-    let a = c .before .before .before .before .before .before .before .args in
-    c .before .entries .inv .1 .0 ∙ sym (c .before .entries .inv .1 .1 ∙ none-left (search-types (now (a .s)) (recordOf (a .t) (now (a .b)))) (now (a .types)) (a .n) (c .before .entries .i) (omega (arith, c .before .before .before .before .before .before .before .pre .0)) (c .entries-test .left))
+    let a = c .before .before .before .before .before .before .args in
+    c .before .entries .inv .1 .0 ∙ sym (c .before .entries .inv .1 .1 ∙ none-left (search-types (now (a .s)) (recordOf (a .t) (now (a .b)))) (now (a .types)) (a .n) (c .before .entries .i) (omega (arith, c .before .before .before .before .before .before .pre .0)) (c .entries-test .left))
 
 returns-2 : tie.Need-returns-2 Inv-loop μ-loop Inv-entries μ-entries
 returns-2 c =
     let k = c .before .before .before .before .before .before .before .before .before .before .before .before in
-    sym (c .before .before .before .before .before .before .before .before .before .before .before .before .before .entries .inv .1 .1 ∙ hit (search-types (sheet k) (sought k)) (places k) (c .before .before .before .before .before .before .before .before .before .before .before .before .before .before .before .before .before .before .before .args .n) (c .before .before .before .before .before .before .before .before .before .before .before .before .before .entries .i) (room k) (c .before .before .before .before .before .before .before .before .before .before .before .before .entries-test .taken)
+    sym (c .before .before .before .before .before .before .before .before .before .before .before .before .before .entries .inv .1 .1 ∙ hit (search-types (sheet k) (sought k)) (places k) (c .before .before .before .before .before .before .before .before .before .before .before .before .before .before .before .before .before .before .args .n) (c .before .before .before .before .before .before .before .before .before .before .before .before .before .entries .i) (room k) (c .before .before .before .before .before .before .before .before .before .before .before .before .entries-test .taken)
     (same _ (sought k) (sym (c .before .before .before .before .before .before .before .tag-of .ensures ∙ ap (λ r. recordAt r .tag) (c .before .before .before .before .before .before .before .before .rest-at .ensures)) ∙ c .before .before .before .before .before .before .if2 .left)
     (ap (λ (z : List ℕ). sameBytes z (sought k .body)) (sym (body-is (c .before .before .before .before .before))) ∙ sym (whole _ _ (c .before .loop .p) (omega (arith, c .loop-test .left, c .before .loop .inv .1 .0)) (c .loop-test .left)) ∙ c .before .loop .inv .1 .1)))
 
 pub type-read-spec : {M : Type 1} → statement M
 type-read-spec =
     tie.close
-    (tie.spec Inv-loop μ-loop Inv-entries μ-entries (λ c κs. search needs) (λ c κs. search needs) entries-holds
+    (tie.spec Inv-loop μ-loop Inv-entries μ-entries (λ c κs. search needs) entries-holds
     (λ c. search needs) (λ c. search needs) (λ c. search needs) (λ c. search needs) (λ c. search needs) (λ c. search needs)
     (λ c κs. search needs) (λ c. search needs) entries-again cast-rest-at (λ c κs. search needs) (λ c κs. search needs) (λ c. search needs) entries-again-2
     (λ c κs. search needs) (λ c. search needs) entries-again-3 same-up-to-requires (λ c. search needs) entries-again-4
