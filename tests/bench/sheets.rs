@@ -195,6 +195,37 @@ fn eights_of_one_hash(count: usize) -> Vec<[u8; 8]> {
     words.map(u64::to_be_bytes).take(count).collect()
 }
 
+/// The first seven bytes for each of so many names of one length, of which no two are the same. With
+/// the length byte they are the first two words of a body, and its hash is the same.
+fn sevens_of_one_hash(length: u8, count: usize) -> Vec<[u8; 7]> {
+    let sum = |first: u32, second: u32| first.wrapping_mul(FACTOR).wrapping_add(second);
+    let most = |three: u32| u32::from(length) << 24 | three;
+    let all = sum(most(0x6e_6e6e), u32::from_be_bytes(*b"nnnn"));
+    let graphic = |bytes: &[u8; 8]| bytes[1..].iter().all(u8::is_ascii_graphic);
+    let words = (0x61_6161..0x7f_7f7f).map(|three| {
+        let second = all.wrapping_sub(sum(most(three), 0));
+        (u64::from(most(three)) << 32 | u64::from(second)).to_be_bytes()
+    });
+    let seven = |bytes: [u8; 8]| bytes[1..].try_into().expect("seven");
+    words.filter(graphic).map(seven).take(count).collect()
+}
+
+/// Scalars with names, as many and as long as make a sheet of so many bytes.
+pub fn of_length(bytes: usize) -> Vec<u8> {
+    let mut records = Vec::new();
+    let mut left = bytes - HEADER;
+    // A record has six bytes and its name.
+    while left > 0 {
+        let size = if left <= 60 { left } else { 30 };
+        let name = format!("{:_<1$}", records.len(), size - 6);
+        records.push(named(name, scalar(FLOAT)));
+        left -= size;
+    }
+    let made = sheet(records);
+    assert!(made.len() == bytes);
+    made
+}
+
 /// A type whose name holds those eight bytes. The length byte and three bytes of a name are the
 /// first word of the body, so that the next two words are bytes 3 to 10 of the name.
 fn with_eight(eight: [u8; 8], length: usize, inner: Inner) -> Record {
@@ -231,6 +262,22 @@ pub fn worst() -> Vec<(&'static str, Vec<u8>)> {
     add(
         "about 240 composites of 30 parts, equal but for the last two",
         fill(literals(16), 240, last_two),
+    );
+    let first = |n: usize| {
+        let mut parts = vec![0; 30];
+        parts[0] = n as u16;
+        compose(1, parts)
+    };
+    add("128 composites of 30 parts, equal but for the first", fill(literals(128), 128, first));
+    // The last part is compared first, then the others from the front.
+    let before_last = |n: usize| {
+        let mut parts = vec![0; 30];
+        (parts[27], parts[28]) = (n as u16 / 16, n as u16 % 16);
+        compose(1, parts)
+    };
+    add(
+        "about 240 composites of 30 parts, equal but for the two before the last",
+        fill(literals(16), 240, before_last),
     );
     add(
         "about 240 equal composites of 30 parts",
@@ -285,20 +332,36 @@ pub fn worst() -> Vec<(&'static str, Vec<u8>)> {
     let eights = eights_of_one_hash(256);
     let scalars = |n: usize| with_eight(eights[n], 54, scalar(FLOAT));
     add("256 scalars of one hash, alike but for eight bytes of names", fill(vec![], 256, scalars));
-    // The offsets of the fifth and of the ninth member are words of the body, seven apart.
-    let nine = |n: usize| {
-        let take_away = (n as u32).wrapping_mul(FACTOR.wrapping_pow(7)).wrapping_neg();
-        let offset = |at: usize| match at {
-            4 => n as u32,
-            8 => take_away,
-            _ => 0,
-        };
-        let member = |at: usize| Member { ty: 0, offset: offset(at), name: None };
-        unnamed(Inner::Struct { span: 0, members: (0..9).map(member).collect() })
+    let sevens = sevens_of_one_hash(54, 256);
+    let in_front = |n: usize| {
+        let mut name = vec![b'n'; 54];
+        name[..7].copy_from_slice(&sevens[n]);
+        Record::Type(Type { name: Some(name), inner: scalar(FLOAT) })
+    };
+    add(
+        "256 scalars of one hash, alike but for the first seven bytes of names",
+        fill(vec![], 256, in_front),
+    );
+    // The offsets of the first, the fifth and the ninth member are words of the body, seven apart.
+    let two_of = |first: usize, count: usize| {
+        move |n: usize| {
+            let take_away = (n as u32).wrapping_mul(FACTOR.wrapping_pow(7)).wrapping_neg();
+            let offset = |at: usize| match at {
+                _ if at == first => n as u32,
+                _ if at == first + 4 => take_away,
+                _ => 0,
+            };
+            let member = |at: usize| Member { ty: 0, offset: offset(at), name: None };
+            unnamed(Inner::Struct { span: 0, members: (0..count).map(member).collect() })
+        }
     };
     add(
         "about 220 structs of one hash, alike but for the fifth and ninth member",
-        fill(vec![unnamed(scalar(FLOAT))], 255, nine),
+        fill(vec![unnamed(scalar(FLOAT))], 255, two_of(4, 9)),
+    );
+    add(
+        "about 250 structs of one hash, alike but for the first and fifth member",
+        fill(vec![unnamed(scalar(FLOAT))], 255, two_of(0, 8)),
     );
     for (what, character, count) in [
         ("about 60 names of 254 bytes, all ASCII", "n", 252),
@@ -430,6 +493,11 @@ pub fn worst() -> Vec<(&'static str, Vec<u8>)> {
     let mut records = fill(base(), 190, small);
     records.extend((0..64).map(|n| Record::Global(global(190 - n, UNIFORM))));
     add("64 wrapped globals of 190 structs", records);
+    // Just above each class of scratch, which is cleared whole.
+    out.push(("a byte over the first class of scratch", of_length(33)));
+    out.push(("a byte over the second class of scratch", of_length(129)));
+    out.push(("a byte over the third class of scratch", of_length(1_281)));
+    out.push(("a byte over the fourth class of scratch", of_length(4_097)));
     let length = full_length();
     out.push(("the full sheet", mix(256, 256, 64, length)));
     out

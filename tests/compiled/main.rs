@@ -27,7 +27,7 @@ const MARGIN: usize = 64;
 const PATTERNS: [u32; 2] = [0x5eed_5eed, !0x5eed_5eed];
 /// The longest that a call may take, in seconds, on a machine where `usual_work` takes USUAL;
 /// on a slower one in proportion.
-const LONGEST: f64 = 0.002;
+const LONGEST: f64 = 0.001;
 const USUAL: f64 = 0.000_022;
 
 const FIT: u32 = 0;

@@ -81,6 +81,45 @@ fn alike_types(front: bool) -> Sheet {
     sheet
 }
 
+/// The factor of the hash by which types are told apart, `crates/sheet/src/hash.rt`.
+const FACTOR: u32 = 2_654_435_761;
+
+/// Types of one hash, which are compared from the last byte to the first: their names differ in
+/// their first seven bytes. Those and the length before them are two words of the body; what the
+/// first adds to the hash, the second takes away.
+fn types_of_one_hash() -> Sheet {
+    let mut sheet = Sheet::new(0);
+    let length = 55;
+    let sum = |first: u32, second: u32| first.wrapping_mul(FACTOR).wrapping_add(second);
+    let word = |three: u32| (length as u32) << 24 | three;
+    let all = sum(word(0x61_6161), u32::from_be_bytes(*b"aaaa"));
+    let fronts = (0x61_6161..0x7f_7f7f).map(|three| {
+        let second = all.wrapping_sub(sum(word(three), 0));
+        [three.to_be_bytes(), second.to_be_bytes()].concat()
+    });
+    let graphic = |front: &Vec<u8>| front[1..].iter().all(u8::is_ascii_graphic);
+    for front in fronts.filter(graphic).take(256) {
+        let mut name = vec![b'a'; length];
+        name[..7].copy_from_slice(&front[1..]);
+        sheet.named(16, &name, &[&FLOAT]);
+    }
+    sheet
+}
+
+/// Types with names, as many and as long as make a sheet of so many bytes.
+fn of_length(bytes: usize) -> Sheet {
+    let mut sheet = Sheet::new(1);
+    let mut number = 0;
+    // A record has six bytes and its name.
+    while sheet.0.len() < bytes {
+        let left = bytes - sheet.0.len();
+        let size = if left <= 60 { left } else { 30 };
+        sheet.named(16, &name_of(number, size - 6, true), &[&FLOAT]);
+        number += 1;
+    }
+    sheet
+}
+
 fn nested_structs() -> Sheet {
     let mut sheet = Sheet::new(0);
     sheet.kind(16, &[&FLOAT]);
@@ -110,7 +149,8 @@ fn nested_arrays(count: u16) -> Sheet {
     sheet
 }
 
-fn alike_composites() -> Sheet {
+/// Composites of 30 parts that differ in two of them, from the first of these on.
+fn alike_composites(differ: usize) -> Sheet {
     let mut sheet = Sheet::new(0);
     sheet.kind(16, &[&FLOAT]);
     sheet.array(0, 30);
@@ -119,8 +159,23 @@ fn alike_composites() -> Sheet {
     }
     for n in 0..240 {
         let mut parts = [0u16; 30];
-        parts[28] = n / 16;
-        parts[29] = n % 16;
+        parts[differ] = n / 16;
+        parts[differ + 1] = n % 16;
+        sheet.compose(1, &parts);
+    }
+    sheet
+}
+
+fn composites_but_for_the_first() -> Sheet {
+    let mut sheet = Sheet::new(0);
+    sheet.kind(16, &[&FLOAT]);
+    sheet.array(0, 30);
+    for bits in 0..128 {
+        sheet.float(bits);
+    }
+    for n in 0..128 {
+        let mut parts = [0u16; 30];
+        parts[0] = n;
         sheet.compose(1, &parts);
     }
     sheet
@@ -354,11 +409,14 @@ pub fn sheets() -> Vec<(&'static str, Vec<u8>)> {
     let made = [
         ("256 types, alike but for the first bytes of their names", alike_types(true)),
         ("256 types, alike but for the last bytes of their names", alike_types(false)),
+        ("256 types of one hash, alike but for the first bytes of names", types_of_one_hash()),
         ("200 structs, each of the one before twice, and zeros", nested_structs()),
         ("255 arrays, each of the one before, and zeros", nested_arrays(255)),
         ("50 such arrays", nested_arrays(50)),
         ("3 such arrays", nested_arrays(3)),
-        ("240 composites of 30 parts, alike but for the last two", alike_composites()),
+        ("240 composites of 30 parts, alike but for the last two", alike_composites(28)),
+        ("240 such, alike but for the two before the last", alike_composites(27)),
+        ("128 composites of 30 parts, alike but for the first", composites_but_for_the_first()),
         ("35 structs of 64 members, alike but for the last", alike_structs()),
         ("35 structs of 64 members, matrices and named", structs_of_matrices()),
         ("31 structs of 64 members of the last of 221 types", structs_of_the_last_type()),
@@ -377,6 +435,10 @@ pub fn sheets() -> Vec<(&'static str, Vec<u8>)> {
         ("64 remapped globals", remapped()),
         ("62 types with names of 254 bytes", names()),
         ("256 types, 256 constants, 64 globals", full()),
+        ("a byte over the first class of scratch", of_length(33)),
+        ("a byte over the second class of scratch", of_length(129)),
+        ("a byte over the third class of scratch", of_length(1_281)),
+        ("a byte over the fourth class of scratch", of_length(4_097)),
     ];
     made.map(|(what, sheet)| (what, sheet.0)).into()
 }

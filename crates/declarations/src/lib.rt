@@ -132,7 +132,7 @@ fn answers_least(sheet: &[u8], words: &mut [u32], index: usize) -> Answers
     requires { ⌜ length (now sheet) ≤ 32 ⌝ }
     ensures { λ r. ⌜ Answered (now (sheet .entry)) (now (words .entry)) index r (now (words .exit)) ⌝ }
 {
-    let mut tables = [0u64; 296];
+    let mut tables = [0u64; 241];
     let mut sections = [0u32; 224];
     answers_in(
         sheet,
@@ -149,7 +149,7 @@ fn answers_tiny(sheet: &[u8], words: &mut [u32], index: usize) -> Answers
     requires { ⌜ length (now sheet) ≤ 128 ⌝ }
     ensures { λ r. ⌜ Answered (now (sheet .entry)) (now (words .entry)) index r (now (words .exit)) ⌝ }
 {
-    let mut tables = [0u64; 1160];
+    let mut tables = [0u64; 945];
     let mut sections = [0u32; 896];
     answers_in(
         sheet,
@@ -166,7 +166,7 @@ fn answers_small(sheet: &[u8], words: &mut [u32], index: usize) -> Answers
     requires { ⌜ length (now sheet) ≤ 1280 ⌝ }
     ensures { λ r. ⌜ Answered (now (sheet .entry)) (now (words .entry)) index r (now (words .exit)) ⌝ }
 {
-    let mut tables = [0u64; 11528];
+    let mut tables = [0u64; 9393];
     let mut sections = [0u32; 8960];
     answers_in(
         sheet,
@@ -183,7 +183,7 @@ fn answers_middle(sheet: &[u8], words: &mut [u32], index: usize) -> Answers
     requires { ⌜ length (now sheet) ≤ 4096 ⌝ }
     ensures { λ r. ⌜ Answered (now (sheet .entry)) (now (words .entry)) index r (now (words .exit)) ⌝ }
 {
-    let mut tables = [0u64; 17920];
+    let mut tables = [0u64; 15040];
     let mut sections = [0u32; 28672];
     answers_in(
         sheet,
@@ -199,7 +199,7 @@ fn answers_middle(sheet: &[u8], words: &mut [u32], index: usize) -> Answers
 fn answers_large(sheet: &[u8], words: &mut [u32], index: usize) -> Answers
     ensures { λ r. ⌜ Answered (now (sheet .entry)) (now (words .entry)) index r (now (words .exit)) ⌝ }
 {
-    let mut tables = [0u64; 30208];
+    let mut tables = [0u64; 27328];
     let mut sections = [0u32; 114688];
     answers_in(
         sheet,

@@ -41,7 +41,7 @@ pub record Used (nr nb at : ℕ) (k : Counts) (w : Writer) : Type 0 where
   pub last : w .idgen .last ≤ 4294967295 + at
 
 module _ (s T S : List ℕ) (nr nb at : ℕ) (k : Counts) (w : Writer) (u : Used nr nb at k w) (f : WithinLimits k) (small : length s ≤ nb) (recs : (length s ≤ 3 * nr) ⊎ (576 ≤ nr))
-    (tables : 24 * nr + nb ≤ length T) (sections : 7 * nb ≤ length S) (short : length s ≤ 16384) where
+    (tables : 19 * nr + nb ≤ length T) (sections : 7 * nb ≤ length S) (short : length s ≤ 16384) where
   pub no-room : at ≤ length s → Room nothing w T S
   no-room inside = let e : countOf k ≤ nr = ⊎-elim (λ l. omega arith) (λ l. omega arith) recs in omega arith
 

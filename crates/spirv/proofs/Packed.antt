@@ -5,8 +5,8 @@ use mathlib.Core.List.{List, [], _∷_}
 use native.Mathlib.Nat.{not-suc-le-zero, le-of-suc-le-suc}
 use native.Mathlib.Omega.{arith}
 use lib.ListN.{length, getD, take, drop, length-drop}
-use lib.Seq.{take-all}
-use Rattle.definition.specs.Instructions.{packed}
+use lib.Seq.{take-all, getD-drop}
+use Rattle.definition.specs.Instructions.{littleEndian, packed}
 use Rattle.spirv.specs.Bytes.{wordOf}
 
 pub packed-length : (bs : List ℕ) → length (packed bs) ≡ length bs / 4 + 1
@@ -32,8 +32,19 @@ packed-at (a ∷ (b ∷ (c ∷ (d ∷ bs)))) (suc i) h =
     let e : 4 * suc i ≡ suc (suc (suc (suc (4 * i)))) = omega arith in
     packed-at bs i (le-of-suc-le-suc h) ∙ ap (λ (k : ℕ). wordOf (drop k (a ∷ (b ∷ (c ∷ (d ∷ bs)))))) (sym e)
 
--- the word that the code makes of what is left of the bytes
+-- the word that the code makes of four bytes, and of what is left of the bytes
+pub word-whole : (bs : List ℕ) (i w : ℕ) → i < length bs / 4 + 1 → w ≡ wordOf (drop (4 * i) bs) → w ≡ getD (packed bs) i 0
+word-whole bs i w h e = e ∙ sym (packed-at bs i (omega (arith, packed-length bs)))
+
 pub word-here : (bs : List ℕ) (i w : ℕ) → i < length bs / 4 + 1 → w ≡ wordOf (take (length bs - 4 * i) (drop (4 * i) bs)) → w ≡ getD (packed bs) i 0
-word-here bs i w h e =
-    e ∙ ap wordOf (take-all (length bs - 4 * i) (drop (4 * i) bs) (simp length-drop (omega arith)))
-    ∙ sym (packed-at bs i (omega (arith, packed-length bs)))
+word-here bs i w h e = word-whole bs i w h (e ∙ ap wordOf (take-all (length bs - 4 * i) (drop (4 * i) bs) (simp length-drop (omega arith))))
+
+-- four bytes of a word by their places
+pub word-at : (bs : List ℕ) (i : ℕ) → wordOf (drop i bs) ≡ littleEndian (getD bs i 0) (getD bs (i + 1) 0) (getD bs (i + 2) 0) (getD bs (i + 3) 0)
+word-at bs i =
+    let e : i + 0 ≡ i = omega arith in
+    let p = getD-drop i bs 0 0 ∙ ap (λ (j : ℕ). getD bs j 0) e in
+    let q = getD-drop i bs 1 0 in
+    let r = getD-drop i bs 2 0 in
+    let s = getD-drop i bs 3 0 in
+    λ t. littleEndian (p t) (q t) (r t) (s t)

@@ -1,8 +1,8 @@
 // Packed strings and storage classes.
 use kinds::AddressSpace;
 ghost use mathlib.Core.Path.{_≡_};
-ghost use Prim.Native.Nat.{_<_};
-ghost use lib.ListN.{getD};
+ghost use Prim.Native.Nat.{_+_, _≤_, _<_};
+ghost use lib.ListN.{length, getD, drop};
 ghost use Rattle.definition.specs.Instructions.{packed};
 ghost use Rattle.spirv.specs.Put.{Put};
 ghost use Rattle.spirv.specs.Bytes.{wordOf};
@@ -45,20 +45,30 @@ fn bytes_to_word(bytes: &[u8]) -> u32
     a + 256 * b + 65536 * c + 16777216 * d
 }
 
+// The same of the four bytes from i on, where all are there: without a test for the end the compiler reads them at once.
+fn whole_word(bytes: &[u8], i: usize) -> u32
+    requires { ⌜ i + 4 ≤ length (now bytes) ⌝ }
+    ensures { λ r. ⌜ r ≡ wordOf (drop i (now (bytes .entry))) ⌝ }
+{
+    let low = bytes[i] as u32 + 256 * bytes[i + 1] as u32;
+    low + 65536 * (bytes[i + 2] as u32 + 256 * bytes[i + 3] as u32)
+}
+
 // Puts a string's words. The last one always holds the zero byte that ends it, so 4n bytes make n + 1 words.
 pub fn string_to_words(sink: &mut [u32], bytes: &[u8]) -> usize
     ensures { λ r. ⌜ Put (packed (now (bytes .entry))) (now (sink .entry)) (now (sink .exit)) r ⌝ }
 {
-    let n = bytes.len() / 4 + 1;
-    if sink.len() < n {
+    let whole = bytes.len() / 4;
+    if sink.len() <= whole {
         return 0;
     }
     let mut i = 0;
-    while i < n {
-        sink[i] = bytes_to_word(&bytes[4 * i..]);
+    while i < whole {
+        sink[i] = whole_word(bytes, 4 * i);
         i += 1;
     }
-    n
+    sink[whole] = bytes_to_word(&bytes[4 * whole..]);
+    whole + 1
 }
 
 pub fn map_storage_class(space: AddressSpace) -> u32

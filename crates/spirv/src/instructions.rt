@@ -121,7 +121,12 @@ pub fn member_decorate(
     requires { ⌜ FitsWordCount (now operands) ⌝ }
     ensures { λ r. ⌜ Put (words (memberDecorate target member decoration (now (operands .entry)))) (now (sink .entry)) (now (sink .exit)) r ⌝ }
 {
-    put_list(sink, OP_MEMBER_DECORATE, &[target, member, decoration], operands)
+    put_list(
+        sink,
+        OP_MEMBER_DECORATE,
+        &[target, member, decoration],
+        operands,
+    )
 }
 
 // ---- modes

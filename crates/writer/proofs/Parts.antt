@@ -18,7 +18,7 @@ use Rattle.lookup.specs.Packed.{packed, Small}
 use Rattle.lookup.proofs.Injective.{injective}
 use Rattle.writer.specs.declared.Writer.{Writer}
 use Rattle.writer.specs.declared.Sought.{Sought}
-use Rattle.writer.specs.Rows.{Row, row, rows, part, sameList, seekParts, soughtOf}
+use Rattle.writer.specs.Rows.{Row, row, triple, rows, part, sameList, seekParts, soughtOf}
 use Rattle.writer.specs.Regions.{compositesAt, partsAt}
 use Rattle.writer.specs.Cost.{staging}
 use Rattle.writer.specs.Held.{Tables, All, keyOfC, partsOfC, compositeRow, allParts, RoomIn}
@@ -135,7 +135,7 @@ whole : (c : Composite) → c ≡ composite (keyOfC c) (partsOfC c)
 whole (composite k ps) = refl
 
 pub seek-composite : (k : Key) → Small k → (xs : List ℕ) (q : ℕ) (T : List ℕ) (p o n : ℕ) (cs : List (Composite × ℕ)) → All (λ (c : Composite). Small (keyOfC c)) cs
-    → rows T p n ≡ map compositeRow cs → o ≤ q → q ≤ length T → part T o (q - o) ≡ allParts cs
+    → rows triple T p n ≡ map compositeRow cs → o ≤ q → q ≤ length T → part T o (q - o) ≡ allParts cs
     → seekParts (packed k) xs q T p o n ≡ lookup sameComposite (composite k xs) cs
 unfolding seekParts rows allParts lookup
 seek-composite k sk xs q T p o zero [] a e ho hq f = refl
@@ -148,7 +148,7 @@ seek-composite k sk xs q T p o (suc n) (c ∷ cs) a e ho hq f =
     let e0 : getD T p 0 ≡ packed (keyOfC (c .0)) = ap (λ (r : List Row). getD r 0 no-row .first) e in
     let e1 : l ≡ length ps = ap (λ (r : List Row). getD r 0 no-row .second) e in
     let e2 : getD T (p + 2) 0 ≡ c .1 = ap (λ (r : List Row). getD r 0 no-row .id) e in
-    let et : rows T (p + 3) n ≡ map compositeRow cs = ap (drop 1) e in
+    let et : rows triple T (p + 3) n ≡ map compositeRow cs = ap (drop 1) e in
     let w : q - o ≡ length ps + length (allParts cs) = sym (part-length T o (q - o) (omega arith)) ∙ ap length f ∙ length-append ps (allParts cs) in
     let h : l ≤ q - o = omega arith in
     let g : part T o l ≡ ps = sym (take-take l (q - o) X h) ∙ ap (take l) f ∙ take-at ps (allParts cs) l (sym e1) in

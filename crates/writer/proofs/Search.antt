@@ -1,6 +1,6 @@
 -- Searching rows, and that a search of a table's rows is the definition's lookup: one law for any kind of key that is told apart by
 -- two numbers, and then each table as an instance of it.
-use Prim.Native.Nat.{ℕ, suc, _+_, _-_, _≤_, _<_}
+use Prim.Native.Nat.{ℕ, suc, _+_, _*_, _-_, _≤_, _<_}
 use mathlib.Core.Path.{_≡_, refl, sym, ap, _∙_}
 use mathlib.Core.Bool.{Bool, true, false, _&&_}
 use mathlib.Core.List.{List, [], _∷_, map}
@@ -20,57 +20,68 @@ use Rattle.lookup.specs.Packed.{packed, Small}
 use Rattle.lookup.proofs.Injective.{injective}
 use Rattle.writer.specs.declared.Writer.{Writer}
 use Rattle.writer.specs.declared.Sought.{Sought}
-use Rattle.writer.specs.Rows.{row, rows, seekIn, soughtOf}
+use Rattle.writer.specs.Rows.{Row, row, RowKind, pair, triple, rowLength, rowAt, rows, seekIn, soughtOf}
 use Rattle.writer.specs.Regions.{literalsAt, nullsAt}
 use Rattle.writer.specs.Held.{Tables, All, keyRow, literalRow, nullRow}
 use Rattle.writer.specs.Steps.{FindsType, FindsLiteral, FindsNull}
 
--- ---- row by row
+-- ---- row by row, of either kind
 
--- no row under the key has its two numbers at x and y
-abbrev pub Other : ℕ → ℕ → List ℕ → ℕ → ℕ → Type 0
-Other a b T x y = getD T y 0 ≡ b → getD T x 0 ≡ a → ⊥
+-- a row is not under the key
+abbrev pub Other : ℕ → ℕ → Row → Type 0
+Other a b r = r .second ≡ b → r .first ≡ a → ⊥
 
-module _ (a b : ℕ) (T : List ℕ) (p : ℕ) where
-  turn : (k m : ℕ) → k ≡ suc m → seekIn a b (rows T p k) ≡ pick (eqb (getD T p 0) a && eqb (getD T (p + 1) 0) b) (some (getD T (p + 2) 0)) (seekIn a b (rows T (p + 3) m))
+module _ (k : RowKind) (a b : ℕ) (T : List ℕ) (p : ℕ) where
+  turn : (n m : ℕ) → n ≡ suc m
+      → seekIn a b (rows k T p n) ≡ pick (eqb (rowAt k T p .first) a && eqb (rowAt k T p .second) b) (some (rowAt k T p .id)) (seekIn a b (rows k T (p + rowLength k) m))
   unfolding seekIn rows
-  turn k m e = ap (λ (j : ℕ). seekIn a b (rows T p j)) e
+  turn n m e = ap (λ (j : ℕ). seekIn a b (rows k T p j)) e
 
-  pub hit : (k x y z : ℕ) → 0 < k → x ≡ p → y ≡ p + 1 → z ≡ p + 2 → getD T y 0 ≡ b → getD T x 0 ≡ a → seekIn a b (rows T p k) ≡ some (getD T z 0)
-  hit k x y z h ex ey ez f e =
-      let e' : getD T p 0 ≡ a = ap (λ (j : ℕ). getD T j 0) (sym ex) ∙ e in
-      let f' : getD T (p + 1) 0 ≡ b = ap (λ (j : ℕ). getD T j 0) (sym ey) ∙ f in
-      turn k (k - 1) (omega arith) ∙ rw (eq-eqb _ _ e', eq-eqb _ _ f') (ap (λ (j : ℕ). some (getD T j 0)) (sym ez))
+  pub hit : (n : ℕ) → 0 < n → rowAt k T p .second ≡ b → rowAt k T p .first ≡ a → seekIn a b (rows k T p n) ≡ some (rowAt k T p .id)
+  hit n h f e = turn n (n - 1) (omega arith) ∙ rw (eq-eqb _ _ e, eq-eqb _ _ f)
 
-  pub miss : (k m x y z : ℕ) → k ≡ suc m → x ≡ p → y ≡ p + 1 → z ≡ p + 3 → Other a b T x y → seekIn a b (rows T p k) ≡ seekIn a b (rows T z m)
-  miss k m x y z h ex ey ez d =
-      turn k m h ∙ go (eqb (getD T p 0) a) (eqb (getD T (p + 1) 0) b) refl refl ∙ ap (λ (j : ℕ). seekIn a b (rows T j m)) (sym ez)
+  pub miss : (n m q : ℕ) → n ≡ suc m → q ≡ p + rowLength k → Other a b (rowAt k T p) → seekIn a b (rows k T p n) ≡ seekIn a b (rows k T q m)
+  miss n m q h g d =
+      turn n m h ∙ go (eqb (rowAt k T p .first) a) (eqb (rowAt k T p .second) b) refl refl ∙ ap (λ (j : ℕ). seekIn a b (rows k T j m)) (sym g)
     where
-      go : (s t : Bool) → eqb (getD T p 0) a ≡ s → eqb (getD T (p + 1) 0) b ≡ t
-          → pick (s && t) (some (getD T (p + 2) 0)) (seekIn a b (rows T (p + 3) m)) ≡ seekIn a b (rows T (p + 3) m)
-      go true true e f = absurd (d (ap (λ (j : ℕ). getD T j 0) ey ∙ eqb-true _ _ f) (ap (λ (j : ℕ). getD T j 0) ex ∙ eqb-true _ _ e))
+      go : (s t : Bool) → eqb (rowAt k T p .first) a ≡ s → eqb (rowAt k T p .second) b ≡ t
+          → pick (s && t) (some (rowAt k T p .id)) (seekIn a b (rows k T (p + rowLength k) m)) ≡ seekIn a b (rows k T (p + rowLength k) m)
+      go true true e f = absurd (d (eqb-true _ _ f) (eqb-true _ _ e))
       go true false e f = refl
       go false t e f = refl
 
-  pub ended : (k : ℕ) → k ≡ 0 → seekIn a b (rows T p k) ≡ none
+  pub ended : (n : ℕ) → n ≡ 0 → seekIn a b (rows k T p n) ≡ none
   unfolding seekIn rows
-  ended k e = ap (λ (j : ℕ). seekIn a b (rows T p j)) e
+  ended n e = ap (λ (j : ℕ). seekIn a b (rows k T p j)) e
 
--- four rows of k
-module _ (a b : ℕ) (T : List ℕ) (p k : ℕ) (h : 4 ≤ k) (first : Other a b T p (p + 1)) where
-  pub miss1 : seekIn a b (rows T p k) ≡ seekIn a b (rows T (p + 3) (k - 1))
-  miss1 = miss a b T p k (k - 1) p (p + 1) (p + 3) (omega arith) refl refl refl first
+-- four rows of n
+module _ (k : RowKind) (a b : ℕ) (T : List ℕ) (p n : ℕ) (h : 4 ≤ n) (first : Other a b (rowAt k T p)) where
+  pub miss1 : seekIn a b (rows k T p n) ≡ seekIn a b (rows k T (p + rowLength k) (n - 1))
+  miss1 = miss k a b T p n (n - 1) (p + rowLength k) (omega arith) refl first
 
-  module _ (second : Other a b T (p + 3) (p + 4)) where
-    pub miss2 : seekIn a b (rows T p k) ≡ seekIn a b (rows T (p + 6) (k - 2))
-    miss2 = miss1 ∙ miss a b T (p + 3) (k - 1) (k - 2) (p + 3) (p + 4) (p + 6) (omega arith) refl (omega arith) (omega arith) second
+  module _ (second : Other a b (rowAt k T (p + rowLength k))) where
+    pub miss2 : seekIn a b (rows k T p n) ≡ seekIn a b (rows k T (p + 2 * rowLength k) (n - 2))
+    miss2 = miss1 ∙ miss k a b T (p + rowLength k) (n - 1) (n - 2) (p + 2 * rowLength k) (omega arith) (omega arith) second
 
-    module _ (third : Other a b T (p + 6) (p + 7)) where
-      pub miss3 : seekIn a b (rows T p k) ≡ seekIn a b (rows T (p + 9) (k - 3))
-      miss3 = miss2 ∙ miss a b T (p + 6) (k - 2) (k - 3) (p + 6) (p + 7) (p + 9) (omega arith) refl (omega arith) (omega arith) third
+    module _ (third : Other a b (rowAt k T (p + 2 * rowLength k))) where
+      pub miss3 : seekIn a b (rows k T p n) ≡ seekIn a b (rows k T (p + 3 * rowLength k) (n - 3))
+      miss3 = miss2 ∙ miss k a b T (p + 2 * rowLength k) (n - 2) (n - 3) (p + 3 * rowLength k) (omega arith) (omega arith) third
 
-      pub miss4 : Other a b T (p + 9) (p + 10) → seekIn a b (rows T p k) ≡ seekIn a b (rows T (p + 12) (k - 4))
-      miss4 fourth = miss3 ∙ miss a b T (p + 9) (k - 3) (k - 4) (p + 9) (p + 10) (p + 12) (omega arith) refl (omega arith) (omega arith) fourth
+      pub miss4 : Other a b (rowAt k T (p + 3 * rowLength k)) → seekIn a b (rows k T p n) ≡ seekIn a b (rows k T (p + 4 * rowLength k) (n - 4))
+      miss4 fourth = miss3 ∙ miss k a b T (p + 3 * rowLength k) (n - 3) (n - 4) (p + 4 * rowLength k) (omega arith) (omega arith) fourth
+
+-- ---- the same with the numbers at places that the code computes
+
+module _ (a : ℕ) (T : List ℕ) (p : ℕ) where
+  pub hit-pair : (n z : ℕ) → 0 < n → z ≡ p + 1 → getD T p 0 ≡ a → seekIn a 0 (rows pair T p n) ≡ some (getD T z 0)
+  hit-pair n z h g e = hit pair a 0 T p n h refl e ∙ ap (λ (j : ℕ). some (getD T j 0)) (sym g)
+
+module _ (a b : ℕ) (T : List ℕ) (p y : ℕ) (f : y ≡ p + 1) where
+  pub hit-triple : (n z : ℕ) → 0 < n → z ≡ p + 2 → getD T y 0 ≡ b → getD T p 0 ≡ a → seekIn a b (rows triple T p n) ≡ some (getD T z 0)
+  hit-triple n z h g d e = hit triple a b T p n h (ap (λ (j : ℕ). getD T j 0) (sym f) ∙ d) e ∙ ap (λ (j : ℕ). some (getD T j 0)) (sym g)
+
+  pub other-triple : (getD T y 0 ≡ b → getD T p 0 ≡ a → ⊥) → Other a b (rowAt triple T p)
+  other-triple d g e = d (ap (λ (j : ℕ). getD T j 0) f ∙ g) e
 
 -- ---- a table's rows
 
@@ -106,13 +117,13 @@ seek-null n t = is-lookup ℕ-discrete (λ x. x) (λ x. 0) (λ x. Unit) (λ x y 
 -- ---- the writer's tables
 
 module _ (w : Writer) (T : List ℕ) (r : Sought) where
-  pub finds-type : (key : ℕ) → soughtOf r ≡ seekIn key 0 (rows T 0 (w .types)) → FindsType key w T r
+  pub finds-type : (key : ℕ) → soughtOf r ≡ seekIn key 0 (rows pair T 0 (w .types)) → FindsType key w T r
   finds-type key q k sm e S s h =
-      q ∙ ap (λ (n : ℕ). seekIn n 0 (rows T 0 (w .types))) e ∙ ap (λ (t : Tables). seekIn (packed k) 0 (t .types)) (h .tables) ∙ seek-key k sm (s .types) (h .small .keys)
+      q ∙ ap (λ (n : ℕ). seekIn n 0 (rows pair T 0 (w .types))) e ∙ ap (λ (t : Tables). seekIn (packed k) 0 (t .types)) (h .tables) ∙ seek-key k sm (s .types) (h .small .keys)
 
-  pub finds-literal : (form bits : ℕ) → soughtOf r ≡ seekIn form bits (rows T (literalsAt w) (w .literals)) → FindsLiteral form bits w T r
+  pub finds-literal : (form bits : ℕ) → soughtOf r ≡ seekIn form bits (rows triple T (literalsAt w) (w .literals)) → FindsLiteral form bits w T r
   finds-literal form bits q l e f S s h =
-      q ∙ (λ j. seekIn (e j) (f j) (rows T (literalsAt w) (w .literals))) ∙ ap (λ (t : Tables). seekIn (formOf l) (bitsOf l) (t .literals)) (h .tables) ∙ seek-literal l (s .constants .literals)
+      q ∙ (λ j. seekIn (e j) (f j) (rows triple T (literalsAt w) (w .literals))) ∙ ap (λ (t : Tables). seekIn (formOf l) (bitsOf l) (t .literals)) (h .tables) ∙ seek-literal l (s .constants .literals)
 
-  pub finds-null : (ty : ℕ) → soughtOf r ≡ seekIn ty 0 (rows T (nullsAt w) (w .nulls)) → FindsNull ty w T r
+  pub finds-null : (ty : ℕ) → soughtOf r ≡ seekIn ty 0 (rows pair T (nullsAt w) (w .nulls)) → FindsNull ty w T r
   finds-null ty q S s h = q ∙ ap (λ (t : Tables). seekIn ty 0 (t .nulls)) (h .tables) ∙ seek-null ty (s .constants .nulls)

@@ -10,12 +10,12 @@ use Rattle.definition.specs.State.{Composite, composite, Valued}
 use Rattle.lookup.specs.Packed.{Small}
 use Rattle.spirv.specs.Sections.{splice}
 use Rattle.writer.specs.declared.Writer.{Writer}
-use Rattle.writer.specs.Rows.{Row, row, rows, part}
+use Rattle.writer.specs.Rows.{Row, row, RowKind, pair, triple, rowLength, rows, part}
 use Rattle.writer.specs.Regions.{literalsAt, nullsAt, valuesAt, compositesAt, partsAt}
 use Rattle.writer.specs.Cost.{aType, aLiteral, aNull, aValue, aComposite}
 use Rattle.writer.specs.Held.{Tables, tablesOf, tablesIn, keyRow, literalRow, nullRow, valueRow, compositeRow, keyOfC, partsOfC, allParts, All, AllKinds, SmallKind, RoomIn}
 use Rattle.writer.specs.Steps.{EnteredType, EnteredLiteral, EnteredNull, EnteredComposite, EnteredValue}
-use Rattle.writer.proofs.Regions.{left, right, behind, rows-agree, rows-more, part-right}
+use Rattle.writer.proofs.Regions.{left, right, behind, rows-agree, pair-put, triple-put, rows-more, part-right}
 
 map-snoc : {A : Type 0} (f : A → Row) (xs : List A) (x : A) → map f xs ++ f x ∷ [] ≡ map f (xs ++ x ∷ [])
 map-snoc f [] x = refl
@@ -40,74 +40,75 @@ moreValues w = record { records = w .records; bytes = w .bytes; idgen = w .idgen
 abbrev pub moreComposites : Writer → ℕ → Writer
 moreComposites w n = record { records = w .records; bytes = w .bytes; idgen = w .idgen; types = w .types; literals = w .literals; nulls = w .nulls; values = w .values; composites = w .composites + 1; parts = w .parts + n; capabilities = w .capabilities; names = w .names; annotations = w .annotations; declarations = w .declarations }
 
-module _ (w : Writer) (T : List ℕ) (a b id : ℕ) where
-  abbrev ws : List ℕ
-  ws = a ∷ b ∷ id ∷ []
+-- a table to the left of what is written, and one to the right
+before : (k : RowKind) (T : List ℕ) (p : ℕ) (ws : List ℕ) (c n : ℕ) → p + length ws ≤ length T → c + rowLength k * n ≤ p → rows k (splice T p ws) c n ≡ rows k T c n
+before k T p ws c n l h = rows-agree k T (splice T p ws) c n (left T p ws l c (rowLength k * n) h)
 
-  -- a table to the left of what is written, and one to the right
-  before : (p c n : ℕ) → p + 3 ≤ length T → c + 3 * n ≤ p → rows (splice T p ws) c n ≡ rows T c n
-  before p c n l h = rows-agree T (splice T p ws) c n (left T p ws l c (3 * n) h)
+after : (k : RowKind) (T : List ℕ) (p : ℕ) (ws : List ℕ) (c n : ℕ) → p + length ws ≤ length T → p + length ws ≤ c → rows k (splice T p ws) c n ≡ rows k T c n
+after k T p ws c n l h = rows-agree k T (splice T p ws) c n (right T p ws l c (rowLength k * n) h)
 
-  after : (p c n : ℕ) → p + 3 ≤ length T → p + 3 ≤ c → rows (splice T p ws) c n ≡ rows T c n
-  after p c n l h = rows-agree T (splice T p ws) c n (right T p ws l c (3 * n) h)
-
+module _ (w : Writer) (T : List ℕ) where
   -- ---- types
 
-  types-row : RoomIn aType w T → tablesOf (moreTypes w) (splice T (3 * w .types) ws)
-      ≡ record { types = tablesOf w T .types ++ row a b id ∷ []; literals = tablesOf w T .literals; nulls = tablesOf w T .nulls; values = tablesOf w T .values; composites = tablesOf w T .composites; parts = tablesOf w T .parts }
-  types-row room =
-      let p = 3 * w .types in
+  types-row : (a id : ℕ) → RoomIn aType w T → tablesOf (moreTypes w) (splice T (2 * w .types) (a ∷ id ∷ []))
+      ≡ record { types = tablesOf w T .types ++ row a 0 id ∷ []; literals = tablesOf w T .literals; nulls = tablesOf w T .nulls; values = tablesOf w T .values; composites = tablesOf w T .composites; parts = tablesOf w T .parts }
+  types-row a id room =
+      let p = 2 * w .types in
+      let ws = a ∷ id ∷ [] in
       λ i. record {
-        types = rows-more T 0 (w .types) p a b id (omega arith) (omega arith) i;
-        literals = after p (literalsAt w) (w .literals) (omega arith) (omega arith) i;
-        nulls = after p (nullsAt w) (w .nulls) (omega arith) (omega arith) i;
-        values = after p (valuesAt w) (w .values) (omega arith) (omega arith) i;
-        composites = after p (compositesAt w) (w .composites) (omega arith) (omega arith) i;
+        types = rows-more pair T 0 (w .types) p ws (row a 0 id) (omega arith) (omega arith) (pair-put T p a id (omega arith)) i;
+        literals = after triple T p ws (literalsAt w) (w .literals) (omega arith) (omega arith) i;
+        nulls = after pair T p ws (nullsAt w) (w .nulls) (omega arith) (omega arith) i;
+        values = after triple T p ws (valuesAt w) (w .values) (omega arith) (omega arith) i;
+        composites = after triple T p ws (compositesAt w) (w .composites) (omega arith) (omega arith) i;
         parts = part-right T p ws (omega arith) (partsAt w) (w .parts) (omega arith) i;
       }
 
   -- ---- literals
 
-  literals-row : RoomIn aLiteral w T → tablesOf (moreLiterals w) (splice T (literalsAt w + 3 * w .literals) ws)
+  literals-row : (a b id : ℕ) → RoomIn aLiteral w T → tablesOf (moreLiterals w) (splice T (literalsAt w + 3 * w .literals) (a ∷ b ∷ id ∷ []))
       ≡ record { types = tablesOf w T .types; literals = tablesOf w T .literals ++ row a b id ∷ []; nulls = tablesOf w T .nulls; values = tablesOf w T .values; composites = tablesOf w T .composites; parts = tablesOf w T .parts }
-  literals-row room =
+  literals-row a b id room =
       let p = literalsAt w + 3 * w .literals in
+      let ws = a ∷ b ∷ id ∷ [] in
       λ i. record {
-        types = before p 0 (w .types) (omega arith) (omega arith) i;
-        literals = rows-more T (literalsAt w) (w .literals) p a b id (omega arith) (omega arith) i;
-        nulls = after p (nullsAt w) (w .nulls) (omega arith) (omega arith) i;
-        values = after p (valuesAt w) (w .values) (omega arith) (omega arith) i;
-        composites = after p (compositesAt w) (w .composites) (omega arith) (omega arith) i;
+        types = before pair T p ws 0 (w .types) (omega arith) (omega arith) i;
+        literals = rows-more triple T (literalsAt w) (w .literals) p ws (row a b id) (omega arith) (omega arith) (triple-put T p a b id (omega arith)) i;
+        nulls = after pair T p ws (nullsAt w) (w .nulls) (omega arith) (omega arith) i;
+        values = after triple T p ws (valuesAt w) (w .values) (omega arith) (omega arith) i;
+        composites = after triple T p ws (compositesAt w) (w .composites) (omega arith) (omega arith) i;
         parts = part-right T p ws (omega arith) (partsAt w) (w .parts) (omega arith) i;
       }
 
   -- ---- nulls
 
-  nulls-row : RoomIn aNull w T → tablesOf (moreNulls w) (splice T (nullsAt w + 3 * w .nulls) ws)
-      ≡ record { types = tablesOf w T .types; literals = tablesOf w T .literals; nulls = tablesOf w T .nulls ++ row a b id ∷ []; values = tablesOf w T .values; composites = tablesOf w T .composites; parts = tablesOf w T .parts }
-  nulls-row room =
-      let p = nullsAt w + 3 * w .nulls in
+  nulls-row : (a id : ℕ) → RoomIn aNull w T → tablesOf (moreNulls w) (splice T (nullsAt w + 2 * w .nulls) (a ∷ id ∷ []))
+      ≡ record { types = tablesOf w T .types; literals = tablesOf w T .literals; nulls = tablesOf w T .nulls ++ row a 0 id ∷ []; values = tablesOf w T .values; composites = tablesOf w T .composites; parts = tablesOf w T .parts }
+  nulls-row a id room =
+      let p = nullsAt w + 2 * w .nulls in
+      let ws = a ∷ id ∷ [] in
       λ i. record {
-        types = before p 0 (w .types) (omega arith) (omega arith) i;
-        literals = before p (literalsAt w) (w .literals) (omega arith) (omega arith) i;
-        nulls = rows-more T (nullsAt w) (w .nulls) p a b id (omega arith) (omega arith) i;
-        values = after p (valuesAt w) (w .values) (omega arith) (omega arith) i;
-        composites = after p (compositesAt w) (w .composites) (omega arith) (omega arith) i;
+        types = before pair T p ws 0 (w .types) (omega arith) (omega arith) i;
+        literals = before triple T p ws (literalsAt w) (w .literals) (omega arith) (omega arith) i;
+        nulls = rows-more pair T (nullsAt w) (w .nulls) p ws (row a 0 id) (omega arith) (omega arith) (pair-put T p a id (omega arith)) i;
+        values = after triple T p ws (valuesAt w) (w .values) (omega arith) (omega arith) i;
+        composites = after triple T p ws (compositesAt w) (w .composites) (omega arith) (omega arith) i;
         parts = part-right T p ws (omega arith) (partsAt w) (w .parts) (omega arith) i;
       }
 
   -- ---- values
 
-  values-row : RoomIn aValue w T → tablesOf (moreValues w) (splice T (valuesAt w + 3 * w .values) ws)
+  values-row : (a b id : ℕ) → RoomIn aValue w T → tablesOf (moreValues w) (splice T (valuesAt w + 3 * w .values) (a ∷ b ∷ id ∷ []))
       ≡ record { types = tablesOf w T .types; literals = tablesOf w T .literals; nulls = tablesOf w T .nulls; values = tablesOf w T .values ++ row a b id ∷ []; composites = tablesOf w T .composites; parts = tablesOf w T .parts }
-  values-row room =
+  values-row a b id room =
       let p = valuesAt w + 3 * w .values in
+      let ws = a ∷ b ∷ id ∷ [] in
       λ i. record {
-        types = before p 0 (w .types) (omega arith) (omega arith) i;
-        literals = before p (literalsAt w) (w .literals) (omega arith) (omega arith) i;
-        nulls = before p (nullsAt w) (w .nulls) (omega arith) (omega arith) i;
-        values = rows-more T (valuesAt w) (w .values) p a b id (omega arith) (omega arith) i;
-        composites = after p (compositesAt w) (w .composites) (omega arith) (omega arith) i;
+        types = before pair T p ws 0 (w .types) (omega arith) (omega arith) i;
+        literals = before triple T p ws (literalsAt w) (w .literals) (omega arith) (omega arith) i;
+        nulls = before pair T p ws (nullsAt w) (w .nulls) (omega arith) (omega arith) i;
+        values = rows-more triple T (valuesAt w) (w .values) p ws (row a b id) (omega arith) (omega arith) (triple-put T p a b id (omega arith)) i;
+        composites = after triple T p ws (compositesAt w) (w .composites) (omega arith) (omega arith) i;
         parts = part-right T p ws (omega arith) (partsAt w) (w .parts) (omega arith) i;
       }
 
@@ -118,15 +119,16 @@ module _ (w : Writer) (T : List ℕ) (key n id : ℕ) (room : RoomIn (aComposite
       ≡ record { types = tablesOf w T .types; literals = tablesOf w T .literals; nulls = tablesOf w T .nulls; values = tablesOf w T .values; composites = tablesOf w T .composites ++ row key n id ∷ []; parts = tablesOf w T .parts ++ part T (partsAt w + w .parts) n }
   composites-row =
       let p = compositesAt w + 3 * w .composites in
+      let ws = key ∷ n ∷ id ∷ [] in
       let d : part T (partsAt w) (w .parts + n) ≡ part T (partsAt w) (w .parts) ++ part T (partsAt w + w .parts) n =
       take-add (w .parts) n (drop (partsAt w) T) ∙ ap (λ (t : List ℕ). part T (partsAt w) (w .parts) ++ take n t) (drop-drop (w .parts) (partsAt w) T) in
       λ i. record {
-        types = before w T key n id p 0 (w .types) (omega arith) (omega arith) i;
-        literals = before w T key n id p (literalsAt w) (w .literals) (omega arith) (omega arith) i;
-        nulls = before w T key n id p (nullsAt w) (w .nulls) (omega arith) (omega arith) i;
-        values = before w T key n id p (valuesAt w) (w .values) (omega arith) (omega arith) i;
-        composites = rows-more T (compositesAt w) (w .composites) p key n id (omega arith) (omega arith) i;
-        parts = (part-right T p (key ∷ n ∷ id ∷ []) (omega arith) (partsAt w) (w .parts + n) (omega arith) ∙ d) i;
+        types = before pair T p ws 0 (w .types) (omega arith) (omega arith) i;
+        literals = before triple T p ws (literalsAt w) (w .literals) (omega arith) (omega arith) i;
+        nulls = before pair T p ws (nullsAt w) (w .nulls) (omega arith) (omega arith) i;
+        values = before triple T p ws (valuesAt w) (w .values) (omega arith) (omega arith) i;
+        composites = rows-more triple T (compositesAt w) (w .composites) p ws (row key n id) (omega arith) (omega arith) (triple-put T p key n id (omega arith)) i;
+        parts = (part-right T p ws (omega arith) (partsAt w) (w .parts + n) (omega arith) ∙ d) i;
       }
 
 parts-snoc : (cs : List (Composite × ℕ)) (c : Composite) (id : ℕ) → allParts cs ++ partsOfC c ≡ allParts (cs ++ (c, id) ∷ [])
@@ -187,13 +189,13 @@ module _ (w : Writer) (T : List ℕ) where
   }
 
 module _ (w : Writer) (T : List ℕ) where
-  pub entered-type : (key id : ℕ) → RoomIn aType w T → EnteredType key id w T (moreTypes w) (splice T (3 * w .types) (key ∷ 0 ∷ id ∷ []))
+  pub entered-type : (key id : ℕ) → RoomIn aType w T → EnteredType key id w T (moreTypes w) (splice T (2 * w .types) (key ∷ id ∷ []))
   entered-type key id room = record {
     grown = omega arith;
-    tail = record { parts = refl; ids = λ j l. behind T (3 * w .types) (key ∷ 0 ∷ id ∷ []) (omega arith) j (omega arith) };
+    tail = record { parts = refl; ids = λ j l. behind T (2 * w .types) (key ∷ id ∷ []) (omega arith) j (omega arith) };
     held = λ k sm e S s h. record {
       last = h .last;
-      tables = types-row w T key 0 id room
+      tables = types-row w T key id room
           ∙ ap (λ (t : Tables). record { types = t .types ++ row key 0 id ∷ []; literals = t .literals; nulls = t .nulls; values = t .values; composites = t .composites; parts = t .parts }) (h .tables)
           ∙ (λ i. record { types = (ap (λ (n : ℕ). map keyRow (s .types) ++ row n 0 id ∷ []) e ∙ map-snoc keyRow (s .types) (k, id)) i; literals = tablesIn s .literals; nulls = tablesIn s .nulls; values = tablesIn s .values; composites = tablesIn s .composites; parts = tablesIn s .parts });
       small = record { keys = all-snoc Small (s .types) k id sm (h .small .keys); composed = h .small .composed; kinds = h .small .kinds };
@@ -215,13 +217,13 @@ module _ (w : Writer) (T : List ℕ) where
     };
   }
 
-  pub entered-null : (t id : ℕ) → RoomIn aNull w T → EnteredNull t id w T (moreNulls w) (splice T (nullsAt w + 3 * w .nulls) (t ∷ 0 ∷ id ∷ []))
+  pub entered-null : (t id : ℕ) → RoomIn aNull w T → EnteredNull t id w T (moreNulls w) (splice T (nullsAt w + 2 * w .nulls) (t ∷ id ∷ []))
   entered-null t id room = record {
     grown = omega arith;
-    tail = record { parts = refl; ids = λ j l. behind T (nullsAt w + 3 * w .nulls) (t ∷ 0 ∷ id ∷ []) (omega arith) j (omega arith) };
+    tail = record { parts = refl; ids = λ j l. behind T (nullsAt w + 2 * w .nulls) (t ∷ id ∷ []) (omega arith) j (omega arith) };
     held = λ S s h. record {
       last = h .last;
-      tables = nulls-row w T t 0 id room
+      tables = nulls-row w T t id room
           ∙ ap (λ (u : Tables). record { types = u .types; literals = u .literals; nulls = u .nulls ++ row t 0 id ∷ []; values = u .values; composites = u .composites; parts = u .parts }) (h .tables)
           ∙ (λ i. record { types = tablesIn s .types; literals = tablesIn s .literals; nulls = map-snoc nullRow (s .constants .nulls) (t, id) i; values = tablesIn s .values; composites = tablesIn s .composites; parts = tablesIn s .parts });
       small = h .small;

@@ -10,7 +10,7 @@ use Rattle.definition.specs.State.{Valued}
 use Rattle.definition.specs.Rules.{noValue}
 use Rattle.writer.specs.declared.Writer.{Writer}
 use Rattle.writer.specs.declared.Value.{Value}
-use Rattle.writer.specs.Rows.{Row, row, rows}
+use Rattle.writer.specs.Rows.{Row, row, triple, rows}
 use Rattle.writer.specs.Regions.{valuesAt}
 use Rattle.writer.specs.Held.{Tables, valueRow, AllKinds}
 use Rattle.writer.specs.Steps.{IsValue, ValueAt}
@@ -24,7 +24,7 @@ valueIn T p = record { id = getD T p 0; ty = getD T (p + 1) 0; kind = getD T (p 
 abbrev pub nothing : Value
 nothing = record { id = 0; ty = 0; kind = 0 }
 
-there : (T : List ℕ) (b n : ℕ) (vs : List Valued) → rows T b n ≡ map valueRow vs → AllKinds vs → (c p : ℕ) → c < n → p ≡ b + 3 * c → IsValue (valueIn T p) (getD vs c noValue)
+there : (T : List ℕ) (b n : ℕ) (vs : List Valued) → rows triple T b n ≡ map valueRow vs → AllKinds vs → (c p : ℕ) → c < n → p ≡ b + 3 * c → IsValue (valueIn T p) (getD vs c noValue)
 unfolding rows
 there T b zero vs e k c p h q = absurd (not-suc-le-zero h)
 there T b (suc n) [] e k c p h q = let z : _≡_ {A = ℕ} 0 1 = cc in absurd (omega arith)
@@ -38,7 +38,7 @@ there T b (suc n) (v ∷ vs) e k zero p h q =
     }
 there T b (suc n) (v ∷ vs) e k (suc c) p h q = there T (b + 3) n vs (ap (drop 1) e) (k .1) c p (omega arith) (omega arith)
 
-past : (T : List ℕ) (b n : ℕ) (vs : List Valued) → rows T b n ≡ map valueRow vs → (c : ℕ) → n ≤ c → noValue ≡ getD vs c noValue
+past : (T : List ℕ) (b n : ℕ) (vs : List Valued) → rows triple T b n ≡ map valueRow vs → (c : ℕ) → n ≤ c → noValue ≡ getD vs c noValue
 unfolding rows
 past T b zero [] e c h = refl
 past T b zero (v ∷ vs) e c h = let z : _≡_ {A = ℕ} 0 1 = cc in absurd (omega arith)

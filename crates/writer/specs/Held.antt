@@ -12,7 +12,7 @@ use Rattle.literals.specs.Forms.{formOf, bitsOf}
 use Rattle.lookup.specs.Packed.{packed, code, Small}
 use Rattle.writer.specs.declared.Writer.{Writer}
 use Rattle.spirv.specs.Ids.{low}
-use Rattle.writer.specs.Rows.{Row, row, rows, part}
+use Rattle.writer.specs.Rows.{Row, row, pair, triple, rows, part}
 use Rattle.writer.specs.Regions.{literalsAt, nullsAt, valuesAt, compositesAt, partsAt, sectionAt, names, annotations, declarations}
 use Rattle.writer.specs.Cost.{Cost}
 
@@ -35,11 +35,11 @@ pub record Sections : Type 0 where
 -- as they lie in the two lists
 abbrev pub tablesOf : Writer → List ℕ → Tables
 tablesOf w T = record {
-  types = rows T 0 (w .types);
-  literals = rows T (literalsAt w) (w .literals);
-  nulls = rows T (nullsAt w) (w .nulls);
-  values = rows T (valuesAt w) (w .values);
-  composites = rows T (compositesAt w) (w .composites);
+  types = rows pair T 0 (w .types);
+  literals = rows triple T (literalsAt w) (w .literals);
+  nulls = rows pair T (nullsAt w) (w .nulls);
+  values = rows triple T (valuesAt w) (w .values);
+  composites = rows triple T (compositesAt w) (w .composites);
   parts = part T (partsAt w) (w .parts);
 }
 
@@ -134,7 +134,7 @@ pub record Held (w : Writer) (T S : List ℕ) (s : State) : Type 0 where
 -- ---- room, and growth
 
 pub record RoomIn (c : Cost) (w : Writer) (T : List ℕ) : Type 0 where
-  pub in-list : 24 * w .records + w .bytes ≤ length T
+  pub in-list : 19 * w .records + w .bytes ≤ length T
   pub in-types : w .types + c .types ≤ 4 * w .records
   pub in-literals : w .literals + c .literals ≤ w .records
   pub in-nulls : w .nulls + c .nulls ≤ w .records

@@ -4,21 +4,22 @@ use Rattle.definition.specs.Instructions.{Instruction}
 use Rattle.definition.specs.State.{State, label, annotate, declare}
 use Rattle.writer.specs.declared.Writer.{Writer}
 
--- the tables, in rows of three numbers: four types to a record, one row of each other table, and a part to a byte; types start at 0
+-- the tables: four types to a record, one row of each other table, and a part to a byte; types and nulls are in rows of two
+-- numbers, the others of three; types start at 0
 abbrev pub literalsAt : Writer → ℕ
-literalsAt w = 12 * w .records
+literalsAt w = 8 * w .records
 
 abbrev pub nullsAt : Writer → ℕ
-nullsAt w = 15 * w .records
+nullsAt w = 11 * w .records
 
 abbrev pub valuesAt : Writer → ℕ
-valuesAt w = 18 * w .records
+valuesAt w = 13 * w .records
 
 abbrev pub compositesAt : Writer → ℕ
-compositesAt w = 21 * w .records
+compositesAt w = 16 * w .records
 
 abbrev pub partsAt : Writer → ℕ
-partsAt w = 24 * w .records
+partsAt w = 19 * w .records
 
 -- the sections: to a byte of the sheet a capability, a word of names, two of annotations, three of declarations; capabilities start at 0
 pub data Section : Type 0 where

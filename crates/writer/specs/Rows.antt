@@ -18,10 +18,24 @@ pub record Row : Type 0 where
 abbrev pub row : ℕ → ℕ → ℕ → Row
 row a b i = record { first = a; second = b; id = i }
 
+-- how a table keeps its rows: all three numbers, or, where every key is one number, that and the id
+pub data RowKind : Type 0 where
+  pair : RowKind
+  triple : RowKind
+
+abbrev pub rowLength : RowKind → ℕ
+rowLength pair = 2
+rowLength triple = 3
+
+-- the row at a place; where it is a pair, the key's second number is 0
+abbrev pub rowAt : RowKind → List ℕ → ℕ → Row
+rowAt pair T p = row (getD T p 0) 0 (getD T (p + 1) 0)
+rowAt triple T p = row (getD T p 0) (getD T (p + 1) 0) (getD T (p + 2) 0)
+
 -- the n rows from a place on
-unfoldable pub rows : List ℕ → ℕ → ℕ → List Row
-rows T at zero = []
-rows T at (suc n) = row (getD T at 0) (getD T (at + 1) 0) (getD T (at + 2) 0) ∷ rows T (at + 3) n
+unfoldable pub rows : RowKind → List ℕ → ℕ → ℕ → List Row
+rows k T p zero = []
+rows k T p (suc n) = rowAt k T p ∷ rows k T (p + rowLength k) n
 
 -- the n words from a place on
 abbrev pub part : List ℕ → ℕ → ℕ → List ℕ

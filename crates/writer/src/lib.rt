@@ -14,23 +14,23 @@ ghost use Rattle.definition.specs.State.{empty};
 ghost use Rattle.definition.specs.Instructions.{constantComposite, name, memberName};
 ghost use Rattle.spirv.specs.Sections.{splice};
 ghost use Rattle.lookup.specs.Local.{asList};
-ghost use Rattle.writer.specs.Rows.{rows, seekIn, sameList, seekParts, soughtOf, part, isListed};
+ghost use Rattle.writer.specs.Rows.{pair, triple, rows, seekIn, sameList, seekParts, soughtOf, part, isListed};
 ghost use Rattle.writer.specs.Regions.{partsAt, names, annotations, declarations};
 ghost use Rattle.writer.specs.Cost.{nothing, aType, aLiteral, aNull, aValue, aComposite, staging, naming, annotating, declaring};
 ghost use Rattle.writer.specs.Held.{Held, RoomIn, RoomFor};
 ghost use Rattle.writer.specs.Steps.{fresh, Took, FindsType, FindsLiteral, FindsNull, FindsComposite, EnteredType, EnteredLiteral, EnteredNull, EnteredComposite, EnteredValue, ValueAt, Puts, CountListed, Pending, Committed};
 
-// Where a table starts, in multiples of `records`: a row is three numbers, and a record adds four types at most and one row
-// to each other table. Behind the tables stand the ids of composites' parts.
-const LITERALS: usize = 12;
+// Where a table starts, in multiples of `records`: a record adds four types at most and one row to each other table. A row is
+// a key and an id, two numbers, of types and nulls, and three of the others. Behind the tables stand the ids of composites' parts.
+const LITERALS: usize = 8;
 
-const NULLS: usize = 15;
+const NULLS: usize = 11;
 
-const VALUES: usize = 18;
+const VALUES: usize = 13;
 
-const COMPOSITES: usize = 21;
+const COMPOSITES: usize = 16;
 
-const PARTS: usize = 24;
+const PARTS: usize = 19;
 
 // Where a section starts, in multiples of `bytes`: a byte of the sheet adds a capability at most, a word of names, two of
 // annotations and three of declarations. The capabilities come first.
@@ -113,10 +113,43 @@ pub fn take_id(mut w: Writer) -> Taken
 
 // ---- tables: searched in order of entry
 
-// The id of the first of n rows under a key; the second number first, in which rows mostly differ.
+// The id of the first of n rows under a key of one number.
+fn seek_key(tables: &[u64], start: usize, n: usize, a: u64) -> Sought
+    requires { ⌜ start + 2 * n ≤ length (now tables) ⌝ }
+    ensures { λ r. ⌜ soughtOf r ≡ seekIn a 0 (rows pair (now (tables .entry)) start n) ⌝ }
+{
+    let mut p = start;
+    let mut left = n;
+    'fours: while 4 <= left {
+        if tables[p] == a {
+            return Sought::Id(tables[p + 1]);
+        }
+        if tables[p + 2] == a {
+            return Sought::Id(tables[p + 3]);
+        }
+        if tables[p + 4] == a {
+            return Sought::Id(tables[p + 5]);
+        }
+        if tables[p + 6] == a {
+            return Sought::Id(tables[p + 7]);
+        }
+        p += 8;
+        left -= 4;
+    }
+    'rest: while 0 < left {
+        if tables[p] == a {
+            return Sought::Id(tables[p + 1]);
+        }
+        p += 2;
+        left -= 1;
+    }
+    Sought::Absent
+}
+
+// The same of a key of two numbers; the second first, in which rows mostly differ.
 fn seek(tables: &[u64], start: usize, n: usize, a: u64, b: u64) -> Sought
     requires { ⌜ start + 3 * n ≤ length (now tables) ⌝ }
-    ensures { λ r. ⌜ soughtOf r ≡ seekIn a b (rows (now (tables .entry)) start n) ⌝ }
+    ensures { λ r. ⌜ soughtOf r ≡ seekIn a b (rows triple (now (tables .entry)) start n) ⌝ }
 {
     let mut p = start;
     let mut left = n;
@@ -160,7 +193,7 @@ pub fn find_type(tables: &[u64], w: Writer, key: u64) -> Sought
     requires { ⌜ RoomIn nothing w (now tables) ⌝ }
     ensures { λ r. ⌜ FindsType key w (now (tables .entry)) r ⌝ }
 {
-    seek(tables, 0, w.types, key, 0)
+    seek_key(tables, 0, w.types, key)
 }
 
 pub fn find_literal(tables: &[u64], w: Writer, form: u64, bits: u64) -> Sought
@@ -174,7 +207,7 @@ pub fn find_null(tables: &[u64], w: Writer, ty: u64) -> Sought
     requires { ⌜ RoomIn nothing w (now tables) ⌝ }
     ensures { λ r. ⌜ FindsNull ty w (now (tables .entry)) r ⌝ }
 {
-    seek(tables, NULLS * w.records, w.nulls, ty, 0)
+    seek_key(tables, NULLS * w.records, w.nulls, ty)
 }
 
 // Whether the n numbers from p on are those from q on: the last first, in which composites that begin alike often differ.
@@ -270,6 +303,14 @@ pub fn find_composite(tables: &[u64], w: Writer, key: u64, n: usize) -> Sought
     )
 }
 
+fn put_pair(tables: &mut [u64], p: usize, a: u64, id: u64)
+    requires { ⌜ p + 2 ≤ length (now tables) ⌝ }
+    ensures { λ _. ⌜ now (tables .exit) ≡ splice (now (tables .entry)) p (a ∷ id ∷ []) ⌝ }
+{
+    tables[p] = a;
+    tables[p + 1] = id;
+}
+
 fn put_row(tables: &mut [u64], p: usize, a: u64, b: u64, id: u64)
     requires { ⌜ p + 3 ≤ length (now tables) ⌝ }
     ensures { λ _. ⌜ now (tables .exit) ≡ splice (now (tables .entry)) p (a ∷ b ∷ id ∷ []) ⌝ }
@@ -283,7 +324,7 @@ pub fn enter_type(tables: &mut [u64], mut w: Writer, key: u64, id: u64) -> Write
     requires { ⌜ RoomIn aType w (now tables) ⌝ }
     ensures { λ r. ⌜ EnteredType key id w (now (tables .entry)) r (now (tables .exit)) ⌝ }
 {
-    put_row(tables, 3 * w.types, key, 0, id);
+    put_pair(tables, 2 * w.types, key, id);
     w.types += 1;
     w
 }
@@ -307,7 +348,7 @@ pub fn enter_null(tables: &mut [u64], mut w: Writer, ty: u64, id: u64) -> Writer
     requires { ⌜ RoomIn aNull w (now tables) ⌝ }
     ensures { λ r. ⌜ EnteredNull ty id w (now (tables .entry)) r (now (tables .exit)) ⌝ }
 {
-    put_row(tables, NULLS * w.records + 3 * w.nulls, ty, 0, id);
+    put_pair(tables, NULLS * w.records + 2 * w.nulls, ty, id);
     w.nulls += 1;
     w
 }

@@ -49,13 +49,7 @@ pub fn member_decorate(
 {
     let start = ANNOTATIONS * w.bytes + w.annotations;
     let t = low_word(target);
-    let n = instructions::member_decorate(
-        &mut sections[start..],
-        t,
-        member,
-        decoration,
-        operands,
-    );
+    let n = instructions::member_decorate(&mut sections[start..], t, member, decoration, operands);
     w.annotations += n;
     w
 }
@@ -194,7 +188,12 @@ pub fn constant_composite(
     ensures { λ r. ⌜ Puts declarations (length (now (parts .entry)) + 3) (constantComposite ty id (now (parts .entry))) w (now (sections .entry)) r (now (sections .exit)) ⌝ }
 {
     let start = DECLARATIONS * w.bytes + w.declarations;
-    let n = instructions::constant_composite(&mut sections[start..], low_word(ty), low_word(id), parts);
+    let n = instructions::constant_composite(
+        &mut sections[start..],
+        low_word(ty),
+        low_word(id),
+        parts,
+    );
     w.declarations += n;
     w
 }

@@ -16,7 +16,7 @@ use Rattle.definition.specs.State.{State}
 use Rattle.definition.specs.Rules.{idsOf, valueAt}
 use Rattle.spirv.specs.Sections.{splice}
 use Rattle.writer.specs.declared.Writer.{Writer}
-use Rattle.writer.specs.Rows.{part}
+use Rattle.writer.specs.Rows.{pair, triple, part}
 use Rattle.writer.specs.Regions.{literalsAt, nullsAt, valuesAt, compositesAt, partsAt}
 use Rattle.writer.specs.Cost.{staging}
 use Rattle.writer.specs.Held.{tablesOf, Held, RoomIn}
@@ -33,11 +33,11 @@ waiting w = partsAt w + w .parts
 module _ (w : Writer) (T ws : List ℕ) (n : ℕ) (l : length ws ≡ n) (room : RoomIn (staging n) w T) where
   tables-kept : tablesOf w (splice T (waiting w) ws) ≡ tablesOf w T
   tables-kept = λ i. record {
-    types = rows-agree T (splice T (waiting w) ws) 0 (w .types) (left T (waiting w) ws (omega arith) 0 (3 * w .types) (omega arith)) i;
-    literals = rows-agree T (splice T (waiting w) ws) (literalsAt w) (w .literals) (left T (waiting w) ws (omega arith) (literalsAt w) (3 * w .literals) (omega arith)) i;
-    nulls = rows-agree T (splice T (waiting w) ws) (nullsAt w) (w .nulls) (left T (waiting w) ws (omega arith) (nullsAt w) (3 * w .nulls) (omega arith)) i;
-    values = rows-agree T (splice T (waiting w) ws) (valuesAt w) (w .values) (left T (waiting w) ws (omega arith) (valuesAt w) (3 * w .values) (omega arith)) i;
-    composites = rows-agree T (splice T (waiting w) ws) (compositesAt w) (w .composites) (left T (waiting w) ws (omega arith) (compositesAt w) (3 * w .composites) (omega arith)) i;
+    types = rows-agree pair T (splice T (waiting w) ws) 0 (w .types) (left T (waiting w) ws (omega arith) 0 (2 * w .types) (omega arith)) i;
+    literals = rows-agree triple T (splice T (waiting w) ws) (literalsAt w) (w .literals) (left T (waiting w) ws (omega arith) (literalsAt w) (3 * w .literals) (omega arith)) i;
+    nulls = rows-agree pair T (splice T (waiting w) ws) (nullsAt w) (w .nulls) (left T (waiting w) ws (omega arith) (nullsAt w) (2 * w .nulls) (omega arith)) i;
+    values = rows-agree triple T (splice T (waiting w) ws) (valuesAt w) (w .values) (left T (waiting w) ws (omega arith) (valuesAt w) (3 * w .values) (omega arith)) i;
+    composites = rows-agree triple T (splice T (waiting w) ws) (compositesAt w) (w .composites) (left T (waiting w) ws (omega arith) (compositesAt w) (3 * w .composites) (omega arith)) i;
     parts = part-left T (waiting w) ws (omega arith) (partsAt w) (w .parts) (omega arith) i;
   }
 

@@ -10,7 +10,7 @@ use Rattle.writer.proofs.enter_null.Tie as tie
 
 returns : tie.Need-returns
 returns c = let a = c .before .before .before .before .before .before .before .before .args in
-    subst (λ (t : List ℕ). EnteredNull (a .ty) (a .id) (a .w) (a .tables .now) (moreNulls (a .w)) t) (sym (c .before .before .before .put-row .ensures)) (entered-null (a .w) (a .tables .now) (a .ty) (a .id) (c .before .before .before .before .before .before .before .before .pre))
+    subst (λ (t : List ℕ). EnteredNull (a .ty) (a .id) (a .w) (a .tables .now) (moreNulls (a .w)) t) (sym (c .before .before .before .put-pair .ensures)) (entered-null (a .w) (a .tables .now) (a .ty) (a .id) (c .before .before .before .before .before .before .before .before .pre))
 
 pub enter-null-spec : {M : Type 1} → statement M
 enter-null-spec =
