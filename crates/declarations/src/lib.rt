@@ -30,6 +30,12 @@ const LARGE: usize = 16384;
 
 const LARGE_RECORDS: usize = 576;
 
+// The scratch of a class, as `writer` lays it out: so many numbers of tables for each record, and one for each byte behind them for
+// the parts of composites; so many words of sections for each byte.
+const TABLE_NUMBERS: usize = 19;
+
+const SECTION_WORDS: usize = 7;
+
 // What Check answers.
 pub enum Verdict {
     Fit,
@@ -132,8 +138,8 @@ fn answers_least(sheet: &[u8], words: &mut [u32], index: usize) -> Answers
     requires { ⌜ length (now sheet) ≤ 32 ⌝ }
     ensures { λ r. ⌜ Answered (now (sheet .entry)) (now (words .entry)) index r (now (words .exit)) ⌝ }
 {
-    let mut tables = [0u64; 241];
-    let mut sections = [0u32; 224];
+    let mut tables = [0u64; TABLE_NUMBERS * LEAST_RECORDS + LEAST];
+    let mut sections = [0u32; SECTION_WORDS * LEAST];
     answers_in(
         sheet,
         &mut tables,
@@ -149,8 +155,8 @@ fn answers_tiny(sheet: &[u8], words: &mut [u32], index: usize) -> Answers
     requires { ⌜ length (now sheet) ≤ 128 ⌝ }
     ensures { λ r. ⌜ Answered (now (sheet .entry)) (now (words .entry)) index r (now (words .exit)) ⌝ }
 {
-    let mut tables = [0u64; 945];
-    let mut sections = [0u32; 896];
+    let mut tables = [0u64; TABLE_NUMBERS * TINY_RECORDS + TINY];
+    let mut sections = [0u32; SECTION_WORDS * TINY];
     answers_in(
         sheet,
         &mut tables,
@@ -166,8 +172,8 @@ fn answers_small(sheet: &[u8], words: &mut [u32], index: usize) -> Answers
     requires { ⌜ length (now sheet) ≤ 1280 ⌝ }
     ensures { λ r. ⌜ Answered (now (sheet .entry)) (now (words .entry)) index r (now (words .exit)) ⌝ }
 {
-    let mut tables = [0u64; 9393];
-    let mut sections = [0u32; 8960];
+    let mut tables = [0u64; TABLE_NUMBERS * SMALL_RECORDS + SMALL];
+    let mut sections = [0u32; SECTION_WORDS * SMALL];
     answers_in(
         sheet,
         &mut tables,
@@ -183,8 +189,8 @@ fn answers_middle(sheet: &[u8], words: &mut [u32], index: usize) -> Answers
     requires { ⌜ length (now sheet) ≤ 4096 ⌝ }
     ensures { λ r. ⌜ Answered (now (sheet .entry)) (now (words .entry)) index r (now (words .exit)) ⌝ }
 {
-    let mut tables = [0u64; 15040];
-    let mut sections = [0u32; 28672];
+    let mut tables = [0u64; TABLE_NUMBERS * MIDDLE_RECORDS + MIDDLE];
+    let mut sections = [0u32; SECTION_WORDS * MIDDLE];
     answers_in(
         sheet,
         &mut tables,
@@ -199,8 +205,8 @@ fn answers_middle(sheet: &[u8], words: &mut [u32], index: usize) -> Answers
 fn answers_large(sheet: &[u8], words: &mut [u32], index: usize) -> Answers
     ensures { λ r. ⌜ Answered (now (sheet .entry)) (now (words .entry)) index r (now (words .exit)) ⌝ }
 {
-    let mut tables = [0u64; 27328];
-    let mut sections = [0u32; 114688];
+    let mut tables = [0u64; TABLE_NUMBERS * LARGE_RECORDS + LARGE];
+    let mut sections = [0u32; SECTION_WORDS * LARGE];
     answers_in(
         sheet,
         &mut tables,
