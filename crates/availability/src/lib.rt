@@ -92,7 +92,7 @@ pub fn behind(a: Available, rest: &[u8]) -> Available
     }
 }
 
-// Whether a capability is available; 0 is none.
+// Whether a capability that a rule checks is available; so is 0, which is none.
 fn is_available(a: Available, cap: u32) -> bool
     ensures { λ r. ⌜ r ≡ flagOf a cap ⌝ }
 {

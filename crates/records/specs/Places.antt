@@ -3,21 +3,21 @@
 use Prim.Native.Nat.{ℕ, _+_, _≤_}
 use mathlib.Core.List.{List, map}
 use mathlib.Core.Option.{Option, some, none}
+use lib.Dec.{eqb}
 use lib.ListN.{length, take, drop}
+use Rattle.definition.specs.Choice.{pick}
 use Rattle.definition.specs.Bytes.{nameEnd}
 use Rattle.definition.specs.Sheet.{Record, recordAt, TypeEntry, typeEntry, typeFields, Expression, constantFields, Global, globalFields, Remap, remapFields, availableFields}
 use Rattle.definition.specs.Tests.{Seen, remapsMost, typesMost, constantsMost, globalsMost}
 use Rattle.records.specs.declared.Counts.{Counts}
-use Rattle.records.specs.declared.Place.{Place}
-use Rattle.records.specs.declared.Place.the-variants.{Nowhere, At}
 
 -- the record at a place of the sheet, and the entry that it is, by its kind
 abbrev pub recordFrom : List ℕ → ℕ → Record
 recordFrom s at = recordAt (drop at s)
 
-abbrev pub availableFrom : List ℕ → Place → Option (List ℕ)
-availableFrom s Nowhere = none
-availableFrom s (At at) = some (availableFields (recordFrom s at .body) .value)
+-- what is available, of Available's place: 0, before the header, is none
+abbrev pub availableFrom : List ℕ → ℕ → Option (List ℕ)
+availableFrom s at = pick (eqb at 0) none (some (availableFields (recordFrom s at .body) .value))
 
 abbrev pub remapFrom : List ℕ → ℕ → Remap
 remapFrom s at = remapFields (recordFrom s at .body) .value

@@ -7,7 +7,7 @@ ghost use lib.ListN.{drop};
 ghost use Rattle.definition.specs.Bytes.{u16At};
 ghost use Rattle.definition.specs.Sheet.{recordAt, tagRank};
 ghost use Rattle.definition.specs.Tests.{Seen, headerTest, noRecord, outOfOrder, room, placeTest};
-ghost use Rattle.records.specs.Counted.{Counted, isThere};
+ghost use Rattle.records.specs.Counted.{Counted};
 
 pub const SHEET_LEAST: usize = 6;
 
@@ -23,17 +23,12 @@ pub const CONSTANTS_MOST: usize = 256;
 
 pub const GLOBALS_MOST: usize = 64;
 
-// Where a record stands: how many bytes of the sheet come before it.
-pub enum Place {
-    Nowhere,
-    At(usize),
-}
-
-// What has been read: the rank of the last record, where Available stands, and how many there are of each other kind.
-// Where those stand is kept in slices, which the caller lends.
+// What has been read: the rank of the last record, how many bytes of the sheet come before Available, or 0 where there is none, and
+// how many records there are of each other kind. Where those stand is kept in slices, which the caller lends. The numbers are of one
+// width, since a copy of narrower ones with gaps between them takes longer, and a record's turn makes many.
 pub struct Counts {
-    pub rank: u8,
-    pub available: Place,
+    pub rank: usize,
+    pub available: usize,
     pub remaps: usize,
     pub types: usize,
     pub constants: usize,
@@ -120,25 +115,15 @@ pub fn rank_of(t: u8) -> u8
     }
 }
 
-fn is_there(p: Place) -> bool
-    ensures { λ r. ⌜ r ≡ isThere p ⌝ }
-{
-    match p {
-        Place::Nowhere => false,
-        Place::At(_) => true,
-    }
-}
-
 // Test 6 of a record of rank r.
 fn out_of_order(k: Counts, r: u8) -> bool
     ensures { λ b. ⌜ ((n : Seen) → Counted n k → b ≡ outOfOrder n r) ⌝ }
 {
-    if r < k.rank {
+    if (r as usize) < k.rank {
         return true;
     }
     if r == 1 {
-        let p = k.available;
-        return is_there(p);
+        return 0 < k.available;
     }
     false
 }

@@ -6,18 +6,16 @@ use mathlib.Core.Bool.{true, not}
 use mathlib.Core.List.{List, [], _∷_, _++_, map}
 use native.Mathlib.Omega.{arith}
 use native.Mathlib.Numerals.{add-one}
-use borrow.Author.Tests.{ltb-true}
+use borrow.Author.Tests.{ltb-true, lt-ltb, ne-eqb}
 use lib.Dec.{eqb, ltb}
 use lib.ListN.{length, take, set, length-map}
 use lib.Seq.{length-take-le, take-suc-set, take-set-le}
 use Rattle.definition.specs.Choice.{within}
 use Rattle.definition.specs.Sheet.{Record, tagRank, entryOf}
 use Rattle.definition.specs.Tests.{Seen, add, addRecord, placeTest, outOfOrder, room, readingTest, present}
-use Rattle.records.specs.Counted.{Counted, isThere}
+use Rattle.records.specs.Counted.{Counted}
 use Rattle.records.specs.Places.{Places, seenOf, Ample, WithinLimits, recordFrom, remapFrom, typeFrom, constantFrom, globalFrom, availableFrom}
 use Rattle.records.specs.declared.Counts.{Counts}
-use Rattle.records.specs.declared.Place.{Place}
-use Rattle.records.specs.declared.Place.the-variants.{Nowhere, At}
 use Rattle.definition.proofs.Truth.{pick-for, unless-zero, first-passed}
 use Rattle.sheet.specs.Hash.{HashFor, Hashed}
 use Rattle.sheet.specs.Holding.{typeNoted, notedAt, addCounts, Passed, Held}
@@ -26,9 +24,9 @@ use Rattle.sheet.proofs.Hashes.{hashed-more}
 
 -- ---- the counts are those of what was read
 
-there : (s : List ℕ) (p : Place) → present (availableFrom s p) ≡ isThere p
-there s Nowhere = refl
-there s (At o) = refl
+there : (s : List ℕ) (at : ℕ) → present (availableFrom s at) ≡ ltb 0 at
+there s zero = refl
+there s (suc at) = simp (ne-eqb (suc at) 0 (λ e. omega arith), lt-ltb 0 (suc at) (omega arith))
 
 count : {A : Type 0} (f : ℕ → A) (l : List ℕ) (n : ℕ) → n ≤ length l → length (map f (take n l)) ≡ n
 count f l n h = length-map (take n l) f ∙ length-take-le n l h
@@ -97,7 +95,7 @@ one-more f l n at h = rw (add-one, take-suc-set l n at h) (map-snoc f (take n l)
 one-more-type : {A : Type 0} (f : ℕ → A) (l : List ℕ) (n at h : ℕ) → n < 256 → 512 ≤ length l → map f (take (n + 1) (typeNoted l n at h)) ≡ map f (take n l) ++ (f at ∷ [])
 one-more-type f l n at h few long = ap (map f) (take-set-le (n + 1) (set l n at) (256 + n) h (omega arith)) ∙ one-more f l n at (omega arith)
 
-module _ (s : List ℕ) (p : Places) (k : Counts) (at : ℕ) (a : Ample p) (f : WithinLimits k) (hs : Hashed s (p .types) (k .types)) (h : ℕ) (eh : HashFor (recordFrom s at) h) where
+module _ (s : List ℕ) (p : Places) (k : Counts) (at : ℕ) (a : Ample p) (f : WithinLimits k) (hs : Hashed s (p .types) (k .types)) (h : ℕ) (eh : HashFor (recordFrom s at) h) (late : 0 < at) where
   abbrev n : Seen
   n = seenOf s p k
 
@@ -110,7 +108,7 @@ module _ (s : List ℕ) (p : Places) (k : Counts) (at : ℕ) (a : Ample p) (f : 
 
   adds-1 : Adds 1
   unfolding notedAt addCounts addRecord add entryOf
-  adds-1 e q = (simp e, record { remaps = f .remaps; types = f .types; constants = f .constants; globals = f .globals }, hs)
+  adds-1 e q = (simp (e, ne-eqb at 0 (λ z. omega arith)), record { remaps = f .remaps; types = f .types; constants = f .constants; globals = f .globals }, hs)
 
   adds-2 : Adds 2
   unfolding notedAt addCounts addRecord add entryOf
@@ -153,7 +151,7 @@ pub held : (s : List ℕ) (p p′ : Places) (k k′ : Counts) (at r h : ℕ) →
     → length (p′ .constants) ≡ length (p .constants) → length (p′ .globals) ≡ length (p .globals)
     → Held s p k at p′ k′
 held s p p′ k k′ at r h d er eh ep ek lr lt lc lg =
-    let a = adds s p k at (d .ample) (d .few) (d .hashed) h eh r er (placed-of (seenOf s p k) (recordFrom s at) (d .tested)) in
+    let a = adds s p k at (d .ample) (d .few) (d .hashed) h eh (d .late) r er (placed-of (seenOf s p k) (recordFrom s at) (d .tested)) in
     let m = d .ample in
     record {
       ample = record { remaps = rw lr (m .remaps); types = rw lt (m .types); constants = rw lc (m .constants); globals = rw lg (m .globals) };

@@ -9,12 +9,11 @@ use Rattle.definition.specs.Sheet.{tagRank}
 use Rattle.definition.specs.Tests.{readingTest, addRecord, typesMost}
 use Rattle.records.specs.Places.{Places, seenOf, recordFrom, Ample, WithinLimits}
 use Rattle.records.specs.declared.Counts.{Counts}
-use Rattle.records.specs.declared.Place.the-variants.{Nowhere, At}
 use Rattle.sheet.specs.Hash.{Hashed}
 
 -- before the first record
 abbrev pub noCounts : Counts
-noCounts = record { rank = 0; available = Nowhere; remaps = 0; types = 0; constants = 0; globals = 0 }
+noCounts = record { rank = 0; available = 0; remaps = 0; types = 0; constants = 0; globals = 0 }
 
 -- a type's place and hash, as the n-th
 abbrev pub typeNoted : List ℕ → ℕ → ℕ → ℕ → List ℕ
@@ -33,7 +32,7 @@ notedAt p k r at h = record {
 unfoldable pub addCounts : Counts → ℕ → ℕ → Counts
 addCounts k r at = record {
   rank = r;
-  available = pick (eqb r 1) (At at) (k .available);
+  available = pick (eqb r 1) at (k .available);
   remaps = pick (eqb r 2) (k .remaps + 1) (k .remaps);
   types = pick (eqb r 3) (k .types + 1) (k .types);
   constants = pick (eqb r 4) (k .constants + 1) (k .constants);
@@ -45,6 +44,7 @@ pub record Passed (s : List ℕ) (p : Places) (k : Counts) (at : ℕ) : Type 0 w
   pub ample : Ample p
   pub few : WithinLimits k
   pub hashed : Hashed s (p .types) (k .types)
+  pub late : 0 < at
   pub small : at < 4294967296
   pub tested : readingTest (seenOf s p k) (recordFrom s at) ≡ 0
 

@@ -1,6 +1,5 @@
 // What is held of the records that were read: their places in the slices of their kind, the types' hashes, and counts.
 use records::Counts;
-use records::Place;
 use records::TYPES_MOST;
 ghost use mathlib.Core.Path.{_≡_};
 ghost use Prim.Native.Nat.{_<_, _≤_};
@@ -15,7 +14,7 @@ pub fn nothing() -> Counts
 {
     Counts {
         rank: 0,
-        available: Place::Nowhere,
+        available: 0,
         remaps: 0,
         types: 0,
         constants: 0,
@@ -70,16 +69,12 @@ fn added(mut k: Counts, r: u8, at: usize) -> Counts
     requires { ⌜ WithinLimits k ⌝ }
     ensures { λ x. ⌜ x ≡ addCounts k r at ⌝ }
 {
-    k.rank = r;
+    k.rank = r as usize;
     match r {
-        1 => Counts {
-            rank: r,
-            available: Place::At(at),
-            remaps: k.remaps,
-            types: k.types,
-            constants: k.constants,
-            globals: k.globals,
-        },
+        1 => {
+            k.available = at;
+            k
+        }
         2 => {
             k.remaps += 1;
             k

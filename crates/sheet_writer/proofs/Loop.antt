@@ -53,6 +53,7 @@ pub record Holds (s T₀ S₀ m₀ : List ℕ) (p₀ : Places) (nr nb : ℕ) (T 
   pub few : WithinLimits k
   pub hashed : Hashed s (p .types) (k .types)
   pub available : Flagged (seenOf s p k .available) v
+  pub late : 0 < at
   pub small : length s ≤ 16384
   pub used : Used nr nb at k w
   pub memo : Memo (seenOf s p k .types) m
@@ -82,6 +83,7 @@ begins s T S m p nr nb start′ k v w h a e ek ev es low ew held =
       few = record { remaps = omega arith; types = omega arith; constants = omega arith; globals = omega arith };
       hashed = λ i l. absurd (omega arith);
       available = ev;
+      late = omega arith;
       small = z .1;
       used = rw ew (omega arith);
       memo = nothing-known [] m (omega arith) e;
@@ -192,7 +194,7 @@ module _ (s T₀ S₀ m₀ : List ℕ) (p₀ : Places) (nr nb : ℕ) (T S m : Li
           read = first-passed (readingTest (seenOf s p k) (recordAt (drop at s))) _ (sym tested ∙ z) .0
 
           pub passed : Passed s p k at
-          passed = record { ample = h .ample; few = h .few; hashed = h .hashed; small = omega (arith, h .small); tested = read }
+          passed = record { ample = h .ample; few = h .few; hashed = h .hashed; late = h .late; small = omega (arith, h .small); tested = read }
 
           pub turns : (p′ : Places) (k′ : Counts) (v′ : Available) (at′ : ℕ) → Kept s p k at p′ k′ → ((n : Seen) → Flagged (n .available) v → Flagged (addRecord n (recordAt rest) .available) v′) → at′ ≡ at + (2 + u16At rest 0)
               → length T′ ≡ length T → length S′ ≡ length S → length m′ ≡ length m
@@ -218,6 +220,7 @@ module _ (s T₀ S₀ m₀ : List ℕ) (p₀ : Places) (nr nb : ℕ) (T S m : Li
                 few = a .few;
                 hashed = a .hashed;
                 available = subst (λ (n : Seen). Flagged (n .available) v′) (sym (a .seen)) (subst (λ (i : List ℕ). Flagged (addRecord (seenOf s p k) (recordAt i) .available) v′) e (av (seenOf s p k) (h .available)));
+                late = omega (arith, ea, h .late);
                 small = h .small;
                 used = rw (en, a .counts, ← e) u;
                 memo = subst (λ (n : Seen). Memo (n .types) m′) (sym (a .seen)) (memo-added (seenOf s p k) (tagRank (recordFrom s at .tag)) (entryOf (recordFrom s at) .value) m′ (subst (λ (n : Seen). length (n .types) ≤ length m′) (a .seen) places) (turn .memo));

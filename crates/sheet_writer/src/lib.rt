@@ -37,7 +37,7 @@ pub enum Outcome {
     Fit(Counts, Writer),
 }
 
-// Test 14 of a type.
+// Test 14 of a type. Where no type of its tag can fail it, the type is not read.
 fn type_test(available: Available, rest: &[u8]) -> u8
     requires { ⌜ innerFits (typeFields (recordAt (now rest) .tag) (recordAt (now rest) .body) (nameEnd (recordAt (now rest) .body) 0) .value) ≡ true ⌝ }
     ensures { λ r. ⌜ ((o : Option (List ℕ)) → Flagged o available → r ≡ unless (shapeAvailable o (shapeOf (typeFields (recordAt (now (rest .entry)) .tag) (recordAt (now (rest .entry)) .body) (nameEnd (recordAt (now (rest .entry)) .body) 0) .value))) 14 0) ⌝ }

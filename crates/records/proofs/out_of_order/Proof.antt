@@ -8,10 +8,10 @@ returns : tie.Need-returns
 returns c = λ n k. simp (k .rank, lt-ltb _ _ (c .if1 .taken))
 
 returns-2 : tie.Need-returns-2
-returns-2 c = λ n k. simp (k .rank, le-ltb _ _ (c .before .before .if1 .left)) (simp (c .before .if2 .taken, k .available) (c .is-there .ensures))
+returns-2 c = λ n k. simp (k .rank, le-ltb _ _ (c .before .before .if1 .left)) (simp (c .before .if2 .taken, k .available))
 
 returns-3 : tie.Need-returns-3
 returns-3 c = λ n k. simp (k .rank, le-ltb _ _ (c .before .if1 .left), ne-eqb _ _ (c .if2 .left))
 
 pub out-of-order-spec : {M : Type 1} → statement M
-out-of-order-spec = tie.close (tie.spec returns (λ c κs. search needs) returns-2 returns-3)
+out-of-order-spec = tie.close (tie.spec returns returns-2 returns-3)
