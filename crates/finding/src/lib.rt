@@ -120,7 +120,8 @@ fn write_type_declaration_local(
     }
 }
 
-// The id of a type that is entered; 0 where it is not.
+// The id of a type that is entered; 0 where it is not. Of an entry this is all that `get_type_id` does, one search: an entry is never
+// declared by being found.
 pub fn type_id(tables: &[u64], w: Writer, t: LookupType) -> u64
     requires { ⌜ RoomIn nothing w (now tables) ⌝ }
     ensures { λ r. ⌜ ((S : List ℕ) (s : State) → Held w (now (tables .entry)) S s → r ≡ orElse 0 (idOf s (keyOf t))) ⌝ }

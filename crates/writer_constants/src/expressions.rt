@@ -5,7 +5,6 @@ use crate::composites::stage_parts;
 use crate::composites::stage_splat;
 use entries::constants::Expression;
 use finding::get_constant_scalar;
-use finding::get_type_id;
 use finding::literal_type;
 use finding::type_id;
 use finding::write_constant_null;
@@ -141,8 +140,8 @@ pub fn write_constant_expr(
             writer::enter_value(tables, w, v.id, v.ty, v.kind)
         }
         Expression::ZeroValue(t) => {
-            let f = get_type_id(tables, sections, w, LookupType::Handle(t));
-            let g = write_constant_null(tables, sections, f.writer, f.id);
+            let x = type_id(tables, w, LookupType::Handle(t));
+            let g = write_constant_null(tables, sections, w, x);
             enter_found(
                 tables,
                 g,

@@ -29,7 +29,7 @@ use Rattle.writer.specs.declared.Writer.{Writer}
 use Rattle.writer.specs.declared.Taken.{Taken}
 use Rattle.writer.specs.Regions.{annotations, declarations}
 use Rattle.writer.specs.Cost.{Cost, nothing, anId, annotating, declaring}
-use Rattle.writer.specs.Held.{Held, Grown, Room, RoomFor}
+use Rattle.writer.specs.Held.{Held, Grown, Room, RoomIn, RoomFor}
 use Rattle.writer.specs.Steps.{GotBy, Took, Puts, Added}
 use Rattle.finding.proofs.Prices.{AtMost}
 use Rattle.writer_members.specs.Members.{memberCost, memberDecorated}
@@ -38,28 +38,24 @@ use Rattle.writer_globals.specs.Costs.{wrapperCost}
 use Rattle.writer_globals.specs.declared.pointers.PointerForm.{PointerForm}
 use Rattle.writer_globals.specs.declared.pointers.PointerForm.the-variants.{Direct, Wrapped, Remapped}
 use Rattle.writer_globals.specs.Globals.{wrapIn, pointerBy, sizeFor, pointerFormIn}
-use Rattle.writer_globals.proofs.Rooms.{_▹_, grown-within, words-left, room-left, tail-still, tail-then}
+use Rattle.writer_globals.proofs.Rooms.{_▹_, grown-within, words-left, tail-still, tail-then}
 
 -- ---- the wrapper: what is left of its room at each call, then the whole
 
-module _ {w : Writer} {T S : List ℕ} (room : Room wrapperCost w T S) {n : Writer} (g₀ : Grown anId w n) {a : Writer} (g₁ : Grown (annotating 3) n a) where
-  pub room-member : {S′ : List ℕ} → length S′ ≡ length S → RoomFor (memberCost false []) a S′
-  room-member l = words-left (room .words) (g₀ ▹ g₁) l (omega arith)
+module _ {w : Writer} {T S : List ℕ} (room : Room wrapperCost w T S) {n : Writer} (g₀ : Grown anId w n) {a : Writer} (g₁ : Grown (annotating 3) n a)
+    {c : Writer} (g₂ : Grown (memberCost false []) a c) where
+  pub room-find : RoomIn nothing c T
+  room-find = omega (arith, g₀ ▹ g₁ ▹ g₂, room .rows)
 
-  module _ {c : Writer} (g₂ : Grown (memberCost false []) a c) where
-    pub room-find : {S′ : List ℕ} → length S′ ≡ length S → Room nothing c T S′
-    room-find l = room-left room (g₀ ▹ g₁ ▹ g₂) refl l (omega arith)
+  pub room-struct : {S′ : List ℕ} → length S′ ≡ length S → RoomFor (declaring 3) c S′
+  room-struct l = words-left (room .words) (g₀ ▹ g₁ ▹ g₂) l (omega arith)
 
-    module _ {f : Writer} (g₃ : Grown nothing c f) where
-      pub room-struct : {S′ : List ℕ} → length S′ ≡ length S → RoomFor (declaring 3) f S′
-      room-struct l = words-left (room .words) (g₀ ▹ g₁ ▹ g₂ ▹ g₃) l (omega arith)
+  module _ {d : Writer} (g₃ : Grown (declaring 3) c d) where
+    pub room-id : d .idgen .last < 9223372036854775808
+    room-id = omega (arith, g₀ ▹ g₁ ▹ g₂ ▹ g₃, room .rows)
 
-      module _ {d : Writer} (g₄ : Grown (declaring 3) f d) where
-        pub room-id : d .idgen .last < 9223372036854775808
-        room-id = omega (arith, g₀ ▹ g₁ ▹ g₂ ▹ g₃ ▹ g₄, room .rows)
-
-        pub room-pointer : {m : Writer} → Grown anId d m → {S′ : List ℕ} → length S′ ≡ length S → RoomFor (declaring 4) m S′
-        room-pointer g₅ l = words-left (room .words) (g₀ ▹ g₁ ▹ g₂ ▹ g₃ ▹ g₄ ▹ g₅) l (omega arith)
+    pub room-pointer : {m : Writer} → Grown anId d m → {S′ : List ℕ} → length S′ ≡ length S → RoomFor (declaring 4) m S′
+    room-pointer g₄ l = words-left (room .words) (g₀ ▹ g₁ ▹ g₂ ▹ g₃ ▹ g₄) l (omega arith)
 
 pub wrapper : (t class : ℕ) (o : Option ℕ) {w : Writer} {T S : List ℕ} {n : Taken} → Took w n
     → {a : Writer} {S₁ : List ℕ} → Puts annotations 3 (block (n .id)) (n .writer) S a S₁

@@ -100,14 +100,14 @@ pub fn name_global(sections: &mut [u32], w: Writer, debug: bool, id: u64, b: &[u
 
 // A Storage global is never wrapped where its type is a binding array: Block goes on the base, once for each such global.
 pub fn block_base(
-    tables: &mut [u64],
+    tables: &[u64],
     sections: &mut [u32],
     w: Writer,
     space: AddressSpace,
     base: Base,
 ) -> Writer
     requires { ⌜ Room (annotating 3) w (now tables) (now sections) ⌝ }
-    ensures { λ r. ⌜ Kept (annotating 3) (blockBase (eqb (spaceNumber space) storageSpace) (indexOf base)) w (now (tables .entry)) (now (sections .entry)) r (now (tables .exit)) (now (sections .exit)) ⌝ }
+    ensures { λ r. ⌜ Kept (annotating 3) (blockBase (eqb (spaceNumber space) storageSpace) (indexOf base)) w (now (tables .entry)) (now (sections .entry)) r (now (tables .entry)) (now (sections .exit)) ⌝ }
 {
     if space_number(space) != STORAGE {
         return w;
@@ -115,8 +115,8 @@ pub fn block_base(
     match base {
         Base::Nothing => w,
         Base::Of(b) => {
-            let f = finding::get_type_id(tables, sections, w, LookupType::Handle(b));
-            sections::decorate(sections, f.writer, f.id, DECORATION_BLOCK, &[])
+            let x = finding::type_id(tables, w, LookupType::Handle(b));
+            sections::decorate(sections, w, x, DECORATION_BLOCK, &[])
         }
     }
 }

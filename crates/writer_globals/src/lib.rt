@@ -97,8 +97,8 @@ fn write_init(
                     writer: w,
                 };
             }
-            let f = finding::get_type_id(tables, sections, w, LookupType::Handle(ty));
-            let z = finding::write_constant_null(tables, sections, f.writer, f.id);
+            let x = finding::type_id(tables, w, LookupType::Handle(ty));
+            let z = finding::write_constant_null(tables, sections, w, x);
             let v = z.writer;
             Inited {
                 init: Initializer::Id(z.id),

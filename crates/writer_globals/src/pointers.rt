@@ -36,7 +36,7 @@ pub enum PointerForm {
 
 // A struct around a type, and the pointer to it. Each global has its own, so neither is looked for or entered.
 fn write_wrapper(
-    tables: &mut [u64],
+    tables: &[u64],
     sections: &mut [u32],
     w: Writer,
     ty: u16,
@@ -44,14 +44,14 @@ fn write_wrapper(
     stride: Number,
 ) -> Taken
     requires { ⌜ Room wrapperCost w (now tables) (now sections) ⌝ }
-    ensures { λ r. ⌜ GotBy wrapperCost (wrapIn (numberOf stride) ty class) w (now (tables .entry)) (now (sections .entry)) r (now (tables .exit)) (now (sections .exit)) ⌝ }
+    ensures { λ r. ⌜ GotBy wrapperCost (wrapIn (numberOf stride) ty class) w (now (tables .entry)) (now (sections .entry)) r (now (tables .entry)) (now (sections .exit)) ⌝ }
 {
     let n = writer::take_id(w);
     let id = n.id;
     let a = sections::decorate(sections, n.writer, id, DECORATION_BLOCK, &[]);
     let c = decorate_struct_member(sections, a, id, 0, 0, false, &[], stride);
-    let f = finding::get_type_id(tables, sections, c, LookupType::Handle(ty));
-    let d = sections::type_struct(sections, f.writer, id, &[f.id]);
+    let x = finding::type_id(tables, c, LookupType::Handle(ty));
+    let d = sections::type_struct(sections, c, id, &[x]);
     let p = writer::take_id(d);
     let pointer = p.id;
     let u = sections::type_pointer(sections, p.writer, pointer, class, id);

@@ -14,17 +14,8 @@ use Rattle.definition.specs.Shapes.{Key, sameKey, entry}
 use Rattle.definition.specs.State.{State, Got, got, lookup, idOf, annotate, declare}
 use Rattle.definition.specs.Finding.{find, findAt, orNewKey}
 use Rattle.definition.specs.Rules.{GotAll, declareMembers, declareStruct, decorateMember, strideMember, labelIf, matrixStride, elementOf, innerAt, anyDynamic, annotateIf, block}
+use Rattle.finding.proofs.Entries.{entry-found}
 use Rattle.writer_types.specs.Members.{decorated, idsIn, structPut}
-
--- ---- entries
-
-entry-found : (h : ℕ) (s : State) → find (entry h) s ≡ got (orElse 0 (idOf s (entry h))) s
-unfolding find findAt
-entry-found h s = go (lookup sameKey (entry h) (s .types))
-  where
-    go : (o : Option ℕ) → orNewKey o (λ k s. got 0 s) (entry h) s ≡ got (orElse 0 o) s
-    go (some i) = refl
-    go none = refl
 
 -- ids hang on the table of types alone
 ids-alike : (ms : List Member) (s t : State) → s .types ≡ t .types → idsIn s ms ≡ idsIn t ms

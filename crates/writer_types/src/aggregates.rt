@@ -25,12 +25,12 @@ pub fn write_elements(
     requires { ⌜ Room elementsCost w (now tables) (now sections) ⌝ }
     ensures { λ r. ⌜ Kept elementsCost (elementsDeclared base size id) w (now (tables .entry)) (now (sections .entry)) r (now (tables .exit)) (now (sections .exit)) ⌝ }
 {
-    let f = finding::get_type_id(tables, sections, w, LookupType::Handle(base));
+    let x = finding::type_id(tables, w, LookupType::Handle(base));
     if size == 0 {
-        return sections::type_runtime_array(sections, f.writer, id, f.id);
+        return sections::type_runtime_array(sections, w, id, x);
     }
-    let g = finding::get_index_constant(tables, sections, f.writer, size);
-    sections::type_array(sections, g.writer, id, f.id, g.id)
+    let g = finding::get_index_constant(tables, sections, w, size);
+    sections::type_array(sections, g.writer, id, x, g.id)
 }
 
 // An Array: its stride is written before its base and its length are found.

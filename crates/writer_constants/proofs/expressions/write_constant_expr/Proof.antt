@@ -13,6 +13,8 @@ use Rattle.entries.specs.Constants.{expressionOf}
 use Rattle.lookup.specs.Local.{keyOf}
 use Rattle.writer.specs.Held.{Room}
 use Rattle.writer.specs.declared.Writer.{Writer}
+use Rattle.finding.proofs.Ways.{taken}
+use Rattle.finding.proofs.Entries.{entry-got}
 use Rattle.writer_constants.specs.Entered.{expressionCost, FewParts}
 use Rattle.writer_constants.proofs.Entering.{splat-room, value-entered, alias-entered, zero-entered, compose-entered, splat-entered}
 use Rattle.writer_constants.proofs.Staging.{u16s-length}
@@ -51,35 +53,24 @@ enter-value-requires c κs =
     let r = subst (Roomy (a .b .now) (a .w) (a .tables .now) (a .sections .now)) (e .1) (o .pre .1 .1) in
     omega (arith, r .rows)
 
-get-type-id-requires : tie.Need-get-type-id-requires
-get-type-id-requires c κs =
-    let o = c .before .before .before .before .before .before .before .before .before .before in
-    let a = o .args in
-    let e = c .before .before .before .e3 .given in
-    let r = subst (Roomy (a .b .now) (a .w) (a .tables .now) (a .sections .now)) (e .1) (o .pre .1 .1) in
-    record { rows = omega (arith, r .rows); words = omega (arith, r .words) }
+type-id-requires : tie.Need-type-id-requires
+type-id-requires c κs = omega (arith, c .before .before .before .before .before .before .before .before .before .pre .1 .1 .rows)
 
 write-constant-null-requires : tie.Need-write-constant-null-requires
 write-constant-null-requires c κs =
-    let o = c .before .before .before .before .before .before .before .before .before .before .before .before .before .before .before .before .before in
-    let a = o .args in
-    let e = c .before .before .before .before .before .before .before .before .before .before .e3 .given in
-    let f = c .before .before .before .before .before .before .get-type-id in
-    let r = subst (Roomy (a .b .now) (a .w) (a .tables .now) (a .sections .now)) (e .1) (o .pre .1 .1) in
-    record { rows = omega (arith, r .rows, f .ensures .grown, f .kept .0); words = omega (arith, r .words, f .ensures .grown, f .kept .1 .0) }
+    let a = c .before .before .before .before .before .before .before .before .before .before .before .before .args in
+    let r = subst (Roomy (a .b .now) (a .w) (a .tables .now) (a .sections .now)) (c .before .before .before .before .before .e3 .given .1) (c .before .before .before .before .before .before .before .before .before .before .before .before .pre .1 .1) in
+    record { rows = omega (arith, r .rows); words = omega (arith, r .words) }
 
 scalar-kind-requires : tie.Need-scalar-kind-requires
-scalar-kind-requires c κs = c .before .before .before .before .before .before .before .before .before .before .before .before .before .before .before .before .before .before .before .before .before .before .before .pre .0
+scalar-kind-requires c κs = c .before .before .before .before .before .before .before .before .before .before .before .before .before .before .before .before .before .before .pre .0
 
 enter-found-requires-2 : tie.Need-enter-found-requires-2
 enter-found-requires-2 c κs =
-    let o = c .before .before .before .before .before .before .before .before .before .before .before .before .before .before .before .before .before .before .before .before .before .before .before .before in
-    let a = o .args in
-    let e = c .before .before .before .before .before .before .before .before .before .before .before .before .before .before .before .before .before .e3 .given in
-    let f = c .before .before .before .before .before .before .before .before .before .before .before .before .before .get-type-id in
+    let a = c .before .before .before .before .before .before .before .before .before .before .before .before .before .before .before .before .before .before .before .args in
     let g = c .before .before .before .before .before .before .write-constant-null in
-    let r = subst (Roomy (a .b .now) (a .w) (a .tables .now) (a .sections .now)) (e .1) (o .pre .1 .1) in
-    omega (arith, r .rows, f .ensures .grown, f .kept .0, g .ensures .grown, g .kept .0)
+    let r = subst (Roomy (a .b .now) (a .w) (a .tables .now) (a .sections .now)) (c .before .before .before .before .before .before .before .before .before .before .before .before .e3 .given .1) (c .before .before .before .before .before .before .before .before .before .before .before .before .before .before .before .before .before .before .before .pre .1 .1) in
+    omega (arith, r .rows, g .ensures .grown, g .kept .0)
 
 stage-parts-requires : tie.Need-stage-parts-requires
 stage-parts-requires c κs =
@@ -170,14 +161,15 @@ returns-2 c =
 
 returns-3 : tie.Need-returns-3
 returns-3 c =
-    let a = c .before .before .before .before .before .before .before .before .before .before .before .before .before .before .before .before .before .before .before .before .before .before .before .before .before .before .before .args in
+    let a = c .before .before .before .before .before .before .before .before .before .before .before .before .before .before .before .before .before .before .before .before .before .before .args in
     let ts = typesFrom (a .s .now) (a .types .now) (a .n) in
-    let e = c .before .before .before .before .before .before .before .before .before .before .before .before .before .before .before .before .before .before .before .before .e3 .given in
-    let f = c .before .before .before .before .before .before .before .before .before .before .before .before .before .before .before .before .get-type-id in
+    let e = c .before .before .before .before .before .before .before .before .before .before .before .before .before .before .before .e3 .given in
+    let f = c .before .before .before .before .before .before .before .before .before .before .before .before .type-id in
+    let q = entry-got (e .0 .0) (a .w) (a .tables .now) (f .result) (f .ensures) (a .sections .now) in
     let g = c .before .before .before .before .before .before .before .before .before .write-constant-null in
     let k = c .before .before .before .scalar-kind in
     let x = c .before .before .enter-found2 in
-    rw (e .1) (zero-entered ts (a .w) (a .tables .now) (a .sections .now) (e .0 .0) (f .result) (f .last .0) (f .last .1 .0) (f .ensures) (g .result) (g .last .0) (g .last .1 .0) (g .ensures) (k .result) (k .ensures .0) (k .ensures .1) (x .result) (x .last .0) (x .ensures))
+    rw (e .1) (zero-entered ts (a .w) (a .tables .now) (a .sections .now) (e .0 .0) (taken (f .result) (a .w)) (a .tables .now) (a .sections .now) q (g .result) (g .last .0) (g .last .1 .0) (g .ensures) (k .result) (k .ensures .0) (k .ensures .1) (x .result) (x .last .0) (x .ensures))
 
 returns-4 : tie.Need-returns-4
 returns-4 c =
@@ -205,7 +197,7 @@ pub write-constant-expr-spec : {M : Type 1} → statement M
 write-constant-expr-spec =
     tie.close
     (tie.spec (λ c. search needs) get-constant-scalar-requires (λ c κs. search needs) (λ c κs. search needs) enter-found-requires
-    (λ c. search needs) (λ c. search needs) value-at-requires enter-value-requires (λ c. search needs) get-type-id-requires
+    (λ c. search needs) (λ c. search needs) value-at-requires enter-value-requires (λ c. search needs) type-id-requires
     write-constant-null-requires scalar-kind-requires enter-found-requires-2 (λ c. search needs) (λ c. search needs)
     stage-parts-requires (λ c. search needs) get-constant-composite-requires enter-found-requires-3 (λ c. search needs)
     (λ c. search needs) value-at-requires-2 (λ c κs. search needs) (λ c. search needs) stage-splat-requires (λ c. search needs)

@@ -1,10 +1,10 @@
--- Nothing outside Storage or where there is no base; else the base is found, and decorated.
--- An entry costs nothing to find, so the room is that of the decoration.
+-- Nothing outside Storage or where there is no base; else the base is found, which changes nothing, and decorated.
 use mathlib.Core.Path.{ap}
 use borrow.Author.Needs.{needs}
 use Rattle.kinds.specs.Numbers.{spaceNumber}
 use Rattle.type_facts.specs.Facets.{indexOf}
 use Rattle.writer.specs.Cost.{annotating}
+use Rattle.finding.proofs.Entries.{entry-got}
 use Rattle.writer_globals.proofs.Notes.{kept-still, not-storage, no-base, on-base}
 use Rattle.writer_globals.proofs.decorations.block_base.Statement.{statement}
 use Rattle.writer_globals.proofs.decorations.block_base.Tie as tie
@@ -18,11 +18,11 @@ returns-2 c = let a = c .before .before .before .before .before .before .args in
     kept-still (annotating 3) (a .w) (a .tables .now) (a .sections .now) (no-base (spaceNumber (a .space)) (c .before .before .before .space-number .result) (c .before .before .before .space-number .ensures .0) (indexOf (a .base)) (c .before .before .if1 .left) (ap indexOf (c .enum-told .given .1)))
 
 returns-3 : tie.Need-returns-3
-returns-3 c = let a = c .before .before .before .before .before .before .before .before .before .before .before .before .before .before .before .before .before .before .before .args in
-    on-base (spaceNumber (a .space)) (c .before .before .before .before .before .before .before .before .before .before .before .before .before .before .before .before .space-number .result) (c .before .before .before .before .before .before .before .before .before .before .before .before .before .before .before .before .space-number .ensures .0) (indexOf (a .base)) (c .before .before .before .before .before .before .before .before .before .before .before .before .before .before .before .if1 .left) (ap indexOf (c .before .before .before .before .before .before .before .before .before .before .before .before .before .base .given .1)) (c .before .before .before .before .before .before .before .before .before .get-type-id .ensures) (c .before .before .decorate .ensures)
+returns-3 c = let a = c .before .before .before .before .before .before .before .before .before .before .before .before .before .args in let b = c .before .before .before .before .before .before .before .base .given in let f = c .before .before .before .before .before .type-id in
+    on-base (spaceNumber (a .space)) (c .before .before .before .before .before .before .before .before .before .before .space-number .result) (c .before .before .before .before .before .before .before .before .before .before .space-number .ensures .0) (indexOf (a .base)) (c .before .before .before .before .before .before .before .before .before .if1 .left) (ap indexOf (b .1)) (entry-got (b .0 .0) (a .w) (a .tables .now) (f .result) (f .ensures) (a .sections .now)) (c .before .before .decorate .ensures)
 
 pub block-base-spec : {M : Type 1} → statement M
 block-base-spec =
     tie.close
     (tie.spec (λ c κs. search needs) returns (λ c. search needs) (λ c. search needs) (λ c κs. search needs)
-    (λ c. search needs) (λ c κs. search needs) returns-2 (λ c. search needs) (λ c. search needs) returns-3)
+    (λ c. search needs) (λ c κs. search needs) returns-2 (λ c. search needs) returns-3)

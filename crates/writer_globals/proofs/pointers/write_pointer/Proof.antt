@@ -15,30 +15,16 @@ cast-t15 : tie.Need-cast-t15
 cast-t15 c = omega (arith, c .before .before .map-storage-class .ensures, class-low (spaceNumber (c .before .before .before .before .before .args .g .space)))
 
 returns : tie.Need-returns
-returns c =
-    let c₁ = c .before .before .before .before in
-    let c₂ = c₁ .before .before .before in
-    let c₃ = c₂ .before .before in
-    let c₄ = c₃ .before .before .before in
-    let a = c₄ .args in
-    cheaper pointerCost (omega arith) (λ s. by-direct (a .form) (a .g) (c₃ .map-storage-class .ensures) s (c₂ .enum-told .given .1)) (c₁ .get-type-id .ensures)
+returns c = let a = c .before .before .before .before .before .before .before .before .before .before .before .before .args in
+    cheaper pointerCost (omega arith) (λ s. by-direct (a .form) (a .g) (c .before .before .before .before .before .before .before .before .before .map-storage-class .ensures) s (c .before .before .before .before .before .before .before .enum-told .given .1)) (c .before .before .before .before .get-type-id .ensures)
 
 returns-2 : tie.Need-returns-2
-returns-2 c =
-    let c₁ = c .before .before .before .before in
-    let c₂ = c₁ .before .before .before .before in
-    let c₃ = c₂ .before .before in
-    let c₄ = c₃ .before .before .before in
-    let a = c₄ .args in
-    cheaper pointerCost (omega arith) (λ s. by-wrapper (a .form) (a .g) (c₃ .map-storage-class .ensures) s (c₂ .form .given .1)) (c₁ .write-wrapper .ensures)
+returns-2 c = let a = c .before .before .before .before .before .before .before .before .before .before .before .args in
+    cheaper pointerCost (omega arith) (λ s. by-wrapper (a .form) (a .g) (c .before .before .before .before .before .before .before .before .map-storage-class .ensures) s (c .before .before .before .before .before .before .form .given .1)) (c .before .before .write-wrapper .ensures)
 
 returns-3 : tie.Need-returns-3
-returns-3 c =
-    let c₁ = c .before .before .before .before in
-    let c₂ = c₁ .before .before .before .before in
-    let c₃ = c₂ .before .before .before .before .before in
-    let a = c₃ .args in
-    cheaper pointerCost (omega arith) (λ s. sym (ap (λ (x : PointerForm). pointerBy x (a .g) s) (c₂ .form2 .given .1))) (c₁ .get-type-id2 .ensures)
+returns-3 c = let a = c .before .before .before .before .before .before .before .before .before .before .before .before .before .args in
+    cheaper pointerCost (omega arith) (λ s. sym (ap (λ (x : PointerForm). pointerBy x (a .g) s) (c .before .before .before .before .before .before .before .before .form2 .given .1))) (c .before .before .before .before .get-type-id2 .ensures)
 
 pub write-pointer-spec : {M : Type 1} → statement M
 write-pointer-spec =
