@@ -34,8 +34,8 @@ fn image_facet(class: u8, access: u8) -> Facet
     Facet::Other
 }
 
-// Of a type with a tag and a body. Other are Scalar, Vector, Atomic, Sampler, AccelerationStructure and RayQuery. What has
-// no tag of these is a BindingArray, here as in the definition: test 5 lets no tag through that is no type's.
+// Of a type with a tag and a body. Other are Scalar, Vector, Atomic, Sampler, AccelerationStructure and RayQuery. What is no
+// type's tag is a BindingArray, here as in the definition: test 5 lets none through.
 pub fn facet_of(tag: u8, b: &[u8]) -> Facet
     ensures { λ r. ⌜ r ≡ facetOf (typeFields tag (now (b .entry)) (nameEnd (now (b .entry)) 0) .value) ⌝ }
 {
@@ -61,6 +61,9 @@ pub fn facet_of(tag: u8, b: &[u8]) -> Facet
         25 => Facet::Other,
         26 => Facet::Other,
         27 => Facet::Other,
+        28 => Facet::BindingArray {
+            base: fields::u16_at(b, at),
+        },
         _ => Facet::BindingArray {
             base: fields::u16_at(b, at),
         },

@@ -75,11 +75,23 @@ fn literal_code(l: Literal) -> u64
 fn kind_in(tag: u8, d: &[u8]) -> u64
     ensures { λ r. ⌜ (r ≡ kindCode (kindOfScalar (typeFields tag (now (d .entry)) (nameEnd (now (d .entry)) 0) .value))) × (r < 1025) ⌝ }
 {
-    if tag != 16 {
-        return 0;
-    }
     let p = fields::name_end(d, 0);
-    kind_code(fields::u8_at(d, p), fields::u8_at(d, p + 1))
+    match tag {
+        16 => kind_code(fields::u8_at(d, p), fields::u8_at(d, p + 1)),
+        17 => 0,
+        18 => 0,
+        19 => 0,
+        20 => 0,
+        21 => 0,
+        22 => 0,
+        23 => 0,
+        24 => 0,
+        25 => 0,
+        26 => 0,
+        27 => 0,
+        28 => 0,
+        _ => 0,
+    }
 }
 
 // The same of type t of the first n.
