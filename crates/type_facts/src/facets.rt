@@ -1,5 +1,7 @@
-// Facets: a type as far as the rules ask of it. A type is read by its tag here and nowhere else; each question is then put
-// to its facet.
+// Facets: a type as far as the rules ask of a type that was read before. Its tag is looked at once, in `facet_of`; each question
+// is then put to the facet. Other fields are read by the tag where they are asked for, since a facet that had them all would be
+// the whole type: `sheet_fields` tests them, `entries` takes them for the type's own declaration, `zeroable` walks what is under a
+// type, and `writer_constants` asks for a scalar's kind and for the places of a Compose.
 use crate::Access;
 use crate::Base;
 use crate::Number;
