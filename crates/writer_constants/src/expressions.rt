@@ -62,12 +62,14 @@ fn kind_code(k: u8, width: u8) -> u64
 fn literal_code(l: Literal) -> u64
     ensures { λ r. ⌜ r ≡ kindCode (some (literalKind (literalOf l))) ⌝ }
 {
-    match literals::form(l) {
-        0 => kind_code(2, 8),
-        1 => kind_code(2, 4),
-        2 => kind_code(1, 4),
-        3 => kind_code(0, 4),
-        _ => kind_code(3, 1),
+    match l {
+        Literal::F64(_) => kind_code(2, 8),
+        Literal::F32(_) => kind_code(2, 4),
+        Literal::Nan64(_) => kind_code(2, 8),
+        Literal::Nan32(_) => kind_code(2, 4),
+        Literal::U32(_) => kind_code(1, 4),
+        Literal::I32(_) => kind_code(0, 4),
+        Literal::Bool(_) => kind_code(3, 1),
     }
 }
 
