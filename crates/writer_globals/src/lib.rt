@@ -12,7 +12,6 @@ use decorations::name_global;
 use entries::globals::GlobalVariable;
 use entries::globals::Init;
 use kinds::AddressSpace;
-use kinds::space_number;
 use lookup::LookupType;
 use pointers::pointer_form_of;
 use pointers::write_pointer;
@@ -39,19 +38,6 @@ ghost use Rattle.writer_globals.specs.Costs.{globalCost};
 ghost use Rattle.writer_globals.specs.Globals.{Initialised, GlobalKept};
 ghost use Rattle.writer_globals.specs.Records.{globalIn, Tested};
 
-// Spaces, as document 01 numbers them.
-const FUNCTION: u8 = 0;
-
-const PRIVATE: u8 = 1;
-
-const WORK_GROUP: u8 = 2;
-
-const UNIFORM: u8 = 3;
-
-const STORAGE: u8 = 4;
-
-const HANDLE: u8 = 5;
-
 // The id of a global's init, if it has one.
 pub struct Inited {
     pub init: Initializer,
@@ -64,10 +50,14 @@ pub struct Inited {
 fn gets_null(space: AddressSpace, zeroing: bool) -> bool
     ensures { λ r. ⌜ r ≡ (eqb (spaceNumber space) privateSpace || (eqb (spaceNumber space) workGroupSpace && zeroing)) ⌝ }
 {
-    match space_number(space) {
-        PRIVATE => true,
-        WORK_GROUP => zeroing,
-        _ => false,
+    match space {
+        AddressSpace::Function => false,
+        AddressSpace::Private => true,
+        AddressSpace::WorkGroup => zeroing,
+        AddressSpace::Uniform => false,
+        AddressSpace::Storage { access: _ } => false,
+        AddressSpace::Handle => false,
+        AddressSpace::PushConstant => false,
     }
 }
 
