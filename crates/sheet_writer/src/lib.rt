@@ -1,6 +1,7 @@
 // The records of a sheet, each tested in the state that those before it left and then declared: what all three operations
 // share. It decides refusals in document 01's order: 13 at one record comes before 5 at the next. 15 is left to the operations.
 use records::Counts;
+use records::Options;
 use records::Place;
 use sheet::holding;
 use writer::Writer;
@@ -14,6 +15,7 @@ ghost use Rattle.definition.specs.Sheet.{recordAt, typeFields};
 ghost use Rattle.definition.specs.Tests.{innerFits};
 ghost use Rattle.definition.specs.Shapes.{shapeOf};
 ghost use Rattle.definition.specs.Unfit.{shapeAvailable};
+ghost use Rattle.records.specs.Flags.{optionsFrom};
 ghost use Rattle.records.specs.Places.{typesFrom, availableFrom, placesOf, Ample};
 ghost use Rattle.zeroable.specs.Memo.{Memo};
 ghost use Rattle.writer.specs.Cost.{nothing};
@@ -90,10 +92,10 @@ fn write_entry(
     types: &[u32],
     k: Counts,
     rest: &[u8],
-    flags: u8,
+    options: Options,
 ) -> Writer
     requires { ⌜ Passed (now s) (now remaps) (now types) k (now rest) × ((k .remaps ≤ length (now remaps)) × ((k .types ≤ length (now types)) × ((k .types ≤ 256) × ((length (now rest) ≤ 16384) × Room (costAt (now rest)) w (now tables) (now sections))))) ⌝ }
-    ensures { λ r. ⌜ EntryWritten (now (s .entry)) (now (remaps .entry)) (now (types .entry)) k (now (rest .entry)) flags w (now (tables .entry)) (now (sections .entry)) r (now (tables .exit)) (now (sections .exit)) ⌝ }
+    ensures { λ r. ⌜ EntryWritten (now (s .entry)) (now (remaps .entry)) (now (types .entry)) k (now (rest .entry)) (optionsFrom options) w (now (tables .entry)) (now (sections .entry)) r (now (tables .exit)) (now (sections .exit)) ⌝ }
 {
     match records::rank_of(records::tag_of(rest)) {
         3 => writer_types::write_type_declaration_arena(
@@ -104,7 +106,7 @@ fn write_entry(
             types,
             k.types,
             rest,
-            flags % 2 == 1,
+            options.debug,
         ),
         4 => writer_constants::write_constant(tables, sections, w, s, types, k.types, rest),
         5 => writer_globals::write_global(
@@ -117,7 +119,7 @@ fn write_entry(
             remaps,
             k.remaps,
             rest,
-            flags,
+            options,
         ),
         _ => w,
     }
@@ -134,10 +136,10 @@ fn record_turn(
     types: &[u32],
     k: Counts,
     rest: &[u8],
-    flags: u8,
+    options: Options,
 ) -> Turn
     requires { ⌜ Ready (now s) (now remaps) (now types) k (now rest) (now tables) (now sections) (now memo) w ⌝ }
-    ensures { λ r. ⌜ Turned (now (s .entry)) (now (remaps .entry)) (now (types .entry)) k (now (rest .entry)) flags w (now (tables .entry)) (now (sections .entry)) r (now (tables .exit)) (now (sections .exit)) (now (memo .exit)) ⌝ }
+    ensures { λ r. ⌜ Turned (now (s .entry)) (now (remaps .entry)) (now (types .entry)) k (now (rest .entry)) (optionsFrom options) w (now (tables .entry)) (now (sections .entry)) r (now (tables .exit)) (now (sections .exit)) (now (memo .exit)) ⌝ }
 {
     let r = sheet::record_test(s, remaps, types, k, rest);
     if r != 0 {
@@ -153,7 +155,7 @@ fn record_turn(
             writer: w,
         };
     }
-    let v = write_entry(tables, sections, w, s, remaps, types, k, rest, flags);
+    let v = write_entry(tables, sections, w, s, remaps, types, k, rest, options);
     Turn {
         refused: 0,
         writer: v,
@@ -182,7 +184,7 @@ pub fn write_sheet(
     if h != 0 {
         return Outcome::Refused(h);
     }
-    let flags = fields::u8_at(s, 5);
+    let options = records::options_of(s);
     let mut w = writer::new(nrecords, nbytes, fields::u32_at(s, 1) as u64);
     let mut at = records::HEADER;
     let mut k = holding::nothing();
@@ -191,7 +193,18 @@ pub fn write_sheet(
         if records::no_record(rest) {
             return Outcome::Refused(4);
         }
-        let t = record_turn(tables, sections, memo, w, s, remaps, types, k, rest, flags);
+        let t = record_turn(
+            tables,
+            sections,
+            memo,
+            w,
+            s,
+            remaps,
+            types,
+            k,
+            rest,
+            options,
+        );
         let r = t.refused;
         if r != 0 {
             return Outcome::Refused(r);
