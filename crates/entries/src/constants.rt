@@ -24,11 +24,21 @@ fn literal_of(b: &[u8]) -> Literal
         1 => literals::f32_of_bits(fields::u32_at(b, 1)),
         2 => literals::u32_of_bits(fields::u32_at(b, 1)),
         3 => literals::i32_of_bits(fields::u32_at(b, 1)),
+        4 => Literal::Bool(fields::u8_at(b, 1) == 1),
         _ => Literal::Bool(fields::u8_at(b, 1) == 1),
     }
 }
 
-// The constant of tag t and body b.
+fn splat(b: &[u8]) -> Expression
+    ensures { λ r. ⌜ Taken 68 (now (b .entry)) r ⌝ }
+{
+    Expression::Splat {
+        size: fields::u8_at(b, 0),
+        value: fields::u16_at(b, 1),
+    }
+}
+
+// The constant of tag t and body b; of what is no constant's tag a Splat, as in the definition.
 pub fn expression_of(t: u8, b: &[u8]) -> Expression
     ensures { λ r. ⌜ Taken t (now (b .entry)) r ⌝ }
 {
@@ -40,9 +50,7 @@ pub fn expression_of(t: u8, b: &[u8]) -> Expression
             ty: fields::u16_at(b, 0),
             count: fields::u16_at(b, 2),
         },
-        _ => Expression::Splat {
-            size: fields::u8_at(b, 0),
-            value: fields::u16_at(b, 1),
-        },
+        68 => splat(b),
+        _ => splat(b),
     }
 }

@@ -66,7 +66,7 @@ pub enum TypeInner {
     },
 }
 
-// The fields of a type of tag t and body b.
+// The fields of a type of tag t and body b; of what is no type's tag those of the last, as in the definition.
 pub fn inner_of(t: u8, b: &[u8]) -> TypeInner
     ensures { λ r. ⌜ Taken t (now (b .entry)) (nameEnd (now (b .entry)) 0) r ⌝ }
 {
@@ -84,6 +84,7 @@ pub fn inner_of(t: u8, b: &[u8]) -> TypeInner
         25 => sampler(b, n),
         26 => TypeInner::AccelerationStructure,
         27 => TypeInner::RayQuery,
+        28 => binding_array(b, n),
         _ => binding_array(b, n),
     }
 }

@@ -148,12 +148,14 @@ fn scalar_type(kind: ScalarKind, width: u8) -> LookupType
 pub fn literal_type(l: Literal) -> LookupType
     ensures { λ r. ⌜ keyOf r ≡ shape (scalar (literalKind (literalOf l))) ⌝ }
 {
-    match literals::form(l) {
-        0 => scalar_type(ScalarKind::Float, 8),
-        1 => scalar_type(ScalarKind::Float, 4),
-        2 => scalar_type(ScalarKind::Uint, 4),
-        3 => scalar_type(ScalarKind::Sint, 4),
-        _ => scalar_type(ScalarKind::Bool, 1),
+    match l {
+        Literal::F64(_) => scalar_type(ScalarKind::Float, 8),
+        Literal::F32(_) => scalar_type(ScalarKind::Float, 4),
+        Literal::Nan64(_) => scalar_type(ScalarKind::Float, 8),
+        Literal::Nan32(_) => scalar_type(ScalarKind::Float, 4),
+        Literal::U32(_) => scalar_type(ScalarKind::Uint, 4),
+        Literal::I32(_) => scalar_type(ScalarKind::Sint, 4),
+        Literal::Bool(_) => scalar_type(ScalarKind::Bool, 1),
     }
 }
 
@@ -162,22 +164,21 @@ fn write_literal(sections: &mut [u32], w: Writer, l: Literal, ty: u64, id: u64) 
     requires { ⌜ RoomFor (declaring 5) w (now sections) ⌝ }
     ensures { λ r. ⌜ Puts declarations 5 (literalOp (literalOf l) ty id) w (now (sections .entry)) r (now (sections .exit)) ⌝ }
 {
-    match literals::form(l) {
-        0 => constant_64bit(
-            sections,
-            w,
-            ty,
-            id,
-            literals::low_word(l),
-            literals::high_word(l),
-        ),
-        4 => {
-            if literals::bits(l) == 1 {
+    let low = literals::low_word(l);
+    let high = literals::high_word(l);
+    match l {
+        Literal::F64(_) => constant_64bit(sections, w, ty, id, low, high),
+        Literal::F32(_) => constant_32bit(sections, w, ty, id, low),
+        Literal::Nan64(_) => constant_64bit(sections, w, ty, id, low, high),
+        Literal::Nan32(_) => constant_32bit(sections, w, ty, id, low),
+        Literal::U32(_) => constant_32bit(sections, w, ty, id, low),
+        Literal::I32(_) => constant_32bit(sections, w, ty, id, low),
+        Literal::Bool(b) => {
+            if b {
                 return constant_true(sections, w, ty, id);
             }
             constant_false(sections, w, ty, id)
         }
-        _ => constant_32bit(sections, w, ty, id, literals::low_word(l)),
     }
 }
 

@@ -10,8 +10,7 @@ use lib.Seq.{take-suc, take-all}
 use Rattle.definition.specs.Instructions.{Instruction, words, capability, allWords}
 use Rattle.definition.specs.State.{capabilityInstructions}
 use Rattle.spirv.specs.Put.{Put}
-use Rattle.spirv.specs.Sections.{Spliced}
-use Rattle.spirv.proofs.Puts.{Begun, start, more, part, back, lent, same-length}
+use Rattle.spirv.proofs.Puts.{Begun, start, more, part, back, same-length}
 
 -- ---- their words
 
@@ -37,13 +36,6 @@ caps-more cs i h =
     let c = getD cs i 0 in
     rw (add-one, take-suc cs i 0 h, caps-append (take i cs) (c ∷ [])) (all-append (capabilityInstructions (take i cs)) (capability c ∷ []) ∙ rw append-nil)
 
--- ---- one of them, in the part of the buffer that was lent
-
-pub capability-lent : (xs : List ℕ) (at c : ℕ) (z : List ℕ) (m : ℕ) → Put (words (capability c)) (part xs at) z m → at + 2 ≤ length xs
-    → Spliced xs at (words (capability c)) 2 (back xs at z) (at + 2)
-unfolding words
-capability-lent xs at c z m p room = record { words = lent xs at (words (capability c)) z m p room; next = refl }
-
 -- ---- the loop
 
 -- the first i stand at the front
@@ -58,14 +50,13 @@ unfolding capabilityInstructions allWords
 listing-start cs xs = record { most = omega arith; place = refl; kept = refl; begun = start xs }
 
 module _ (cs xs : List ℕ) (i : ℕ) (ys : List ℕ) (at : ℕ) (l : Listing cs xs i ys at) where
-  -- a turn
-  pub listing-more : (zs : List ℕ) (r : ℕ) → i < length cs → 2 * length cs ≤ length xs → Spliced ys at (words (capability (getD cs i 0))) 2 zs r → Listing cs xs (i + 1) zs r
+  -- a turn: one more, in what is left of the buffer
+  pub listing-more : (z : List ℕ) (m : ℕ) → i < length cs → 2 * length cs ≤ length xs → Put (words (capability (getD cs i 0))) (part ys at) z m → Listing cs xs (i + 1) (back ys at z) (at + 2)
   unfolding words
-  listing-more zs r h room s =
-      let b : Begun (allWords (capabilityInstructions (take (i + 1) cs))) xs zs r =
-      rw (caps-more cs i h) (more _ xs ys (words (capability (getD cs i 0))) zs at 2 r (l .begun) s (omega arith) (omega (arith, l .place))) in
-      let p : r ≡ 2 * (i + 1) = omega (arith, s .next, l .place) in
-      record { most = omega arith; place = p; kept = same-length _ xs zs r (b .written) (omega (arith, b .size)); begun = b }
+  listing-more z m h room q =
+      let b : Begun (allWords (capabilityInstructions (take (i + 1) cs))) xs (back ys at z) (at + 2) =
+      rw (caps-more cs i h) (more _ (words (capability (getD cs i 0))) xs ys z at m 2 (l .begun) q refl (omega (arith, l .place))) in
+      record { most = omega arith; place = omega (arith, l .place); kept = same-length _ xs _ (at + 2) (b .written) (omega (arith, b .size, l .place)); begun = b }
 
   -- the end
   pub listing-all : length cs ≤ i → Put (allWords (capabilityInstructions cs)) xs ys at

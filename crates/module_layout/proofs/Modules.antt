@@ -7,7 +7,7 @@ use mathlib.Core.Bool.{true}
 use mathlib.Core.List.{List, [], _∷_, _++_, map, append-assoc, append-nil}
 use native.Mathlib.Omega.{arith}
 use lib.ListN.{length, take, drop, length-append, length-drop}
-use lib.Seq.{take-all, length-take-le}
+use lib.Seq.{length-take-le}
 use borrow.Author.Tests.{le-leb, lt-leb, ltb-true}
 use Rattle.definition.specs.Choice.{every}
 use Rattle.definition.specs.Instructions.{header, allWords, put}
@@ -16,7 +16,6 @@ use Rattle.definition.specs.State.{State, boundOf, capabilityInstructions, inst
 use Rattle.definition.specs.Operations.{boundMost}
 use Rattle.definition.proofs.Truth.{both}
 use Rattle.spirv.specs.Put.{Put}
-use Rattle.spirv.specs.Sections.{Spliced}
 use Rattle.spirv.proofs.Puts.{Begun, more, part, back, behind}
 use Rattle.spirv.specs.Ids.{low}
 use Rattle.writer.specs.Regions.{Section, names, annotations, declarations, sectionAt, used}
@@ -24,7 +23,7 @@ use Rattle.writer.specs.Cost.{nothing}
 use Rattle.writer.specs.Held.{Held, RoomFor}
 use Rattle.writer.specs.declared.Writer.{Writer}
 use Rattle.module_layout.specs.declared.Answer.the-variants.{Written, Refused}
-use Rattle.module_layout.specs.Finished.{Front, countOf, laidOut, wordsIn, Finished}
+use Rattle.module_layout.specs.Finished.{Front, Roomy, countOf, laidOut, wordsIn, Finished}
 use Rattle.module_layout.proofs.Capabilities.{all-append, caps-length}
 
 -- ---- words of 32 bits
@@ -80,9 +79,11 @@ module _ (w : Writer) (S : List ℕ) (room : RoomFor nothing w S) where
 
 -- ---- one section behind the other
 
--- a slice from a place on is what is left of the list from there
-pub rest-of : (xs : List ℕ) (start : ℕ) → take (length xs - start) (drop start xs) ≡ drop start xs
-rest-of xs start = take-all (length xs - start) (drop start xs) (simp length-drop (omega arith))
+-- a part that comes back as long as it was lent leaves the buffer as long as it was
+back-length : (xs : List ℕ) (at : ℕ) (z : List ℕ) → at ≤ length xs → length z ≡ length (part xs at) → length (back xs at z) ≡ length xs
+back-length xs at z h e =
+    let p : length (part xs at) ≡ length xs - at = length-take-le (length xs - at) (drop at xs) (simp length-drop (omega arith)) in
+    simp (length-append, length-drop, length-take-le at xs h) (omega arith)
 
 pub front-put : (bound : ℕ) (cs out : List ℕ) → 5 + 2 * length cs ≤ length out → (y z : List ℕ) (m k : ℕ) → Put (header bound) out y m
     → Put (allWords (capabilityInstructions cs)) (part y 5) z k → Front bound cs out (back y 5 z) (5 + 2 * length cs)
@@ -91,20 +92,57 @@ front-put bound cs out room y z m k p q = record {
   next = refl;
 }
 
+-- what the calls lean on: the sections lie in their regions, and behind a place there is room for them in a buffer of n words
+pub record Placed (w : Writer) (S : List ℕ) (at n : ℕ) : Type 0 where
+  pub room : RoomFor nothing w S
+  pub few : w .bytes ≤ 65536
+  pub start : at ≡ 5 + 2 * w .capabilities
+  pub most : countOf w ≤ n
+
+-- it holds behind the front, and of the buffer as it comes back from each section's writer
+module _ (w : Writer) (S out : List ℕ) (ready : Roomy w S × (countOf w ≤ length out)) (bound at : ℕ) (y : List ℕ)
+    (f : Front bound (take (w .capabilities) S) out y at) (k : length y ≡ length out) where
+  pub placed : Placed w S at (length y)
+  placed = record {
+    room = ready .0 .room;
+    few = ready .0 .few;
+    start = omega (arith, f .next, listed w S (ready .0 .room));
+    most = omega (arith, ready .1);
+  }
+
+  module _ (z : List ℕ) (l : length z ≡ length (part y at)) where
+    names-back : length (back y at z) ≡ length y
+    names-back = let p = placed in back-length y at z (omega (arith, p .start, p .most)) l
+
+    pub placed-2 : Placed w S at (length (back y at z))
+    placed-2 = rw names-back placed
+
+    module _ (z′ : List ℕ) (l′ : length z′ ≡ length (part (back y at z) (at + w .names))) where
+      annotations-back : length (back (back y at z) (at + w .names) z′) ≡ length y
+      annotations-back = let p = placed-2 in back-length (back y at z) (at + w .names) z′ (omega (arith, p .start, p .most)) l′ ∙ names-back
+
+      pub placed-3 : Placed w S at (length (back (back y at z) (at + w .names) z′))
+      placed-3 = rw annotations-back placed
+
+      pub all-back : (z″ : List ℕ) → length z″ ≡ length (part (back (back y at z) (at + w .names) z′) (at + w .names + w .annotations))
+          → length (back (back (back y at z) (at + w .names) z′) (at + w .names + w .annotations) z″) ≡ length out
+      all-back z″ l″ =
+          let p = placed-3 in
+          back-length (back (back y at z) (at + w .names) z′) (at + w .names + w .annotations) z″ (omega (arith, p .start, p .most)) l″ ∙ annotations-back ∙ k
+
 pub module-put : (w : Writer) (S : List ℕ) (bound : ℕ) (out : List ℕ) → RoomFor nothing w S → countOf w ≤ length out
-    → (y2 y3 y4 y5 : List ℕ) (r2 r3 r4 r5 : ℕ) → Front bound (take (w .capabilities) S) out y2 r2
-    → Spliced y2 r2 (drop (sectionAt names w) S) (w .names) y3 r3
-    → Spliced y3 r3 (drop (sectionAt annotations w) S) (w .annotations) y4 r4
-    → Spliced y4 r4 (drop (sectionAt declarations w) S) (w .declarations) y5 r5 → Put (wordsIn w S bound) out y5 r5
-module-put w S bound out room fits y2 y3 y4 y5 r2 r3 r4 r5 f s3 s4 s5 =
+    → (y z3 z4 z5 : List ℕ) (at m3 m4 m5 : ℕ) → Front bound (take (w .capabilities) S) out y at
+    → Put (take (w .names) (drop (sectionAt names w) S)) (part y at) z3 m3
+    → Put (take (w .annotations) (drop (sectionAt annotations w) S)) (part (back y at z3) (at + w .names)) z4 m4
+    → Put (take (w .declarations) (drop (sectionAt declarations w) S)) (part (back (back y at z3) (at + w .names) z4) (at + w .names + w .annotations)) z5 m5
+    → Put (wordsIn w S bound) out (back (back (back y at z3) (at + w .names) z4) (at + w .names + w .annotations) z5) (at + w .names + w .annotations + w .declarations)
+module-put w S bound out room fits y z3 z4 z5 at m3 m4 m5 f q3 q4 q5 =
     let cs = take (w .capabilities) S in
-    let at : (b : Section) → List ℕ = λ b. drop (sectionAt b w) S in
     let l = listed w S room in
-    let b2 : Begun (header bound ++ allWords (capabilityInstructions cs)) out y2 r2 = record { written = f .written; size = simp length-append (omega (arith, f .next, caps-length cs)) } in
-    let b3 = more _ out y2 (at names) y3 r2 (w .names) r3 b2 s3 (in-region w S room names) (omega (arith, f .next)) in
-    let b4 = more _ out y3 (at annotations) y4 r3 (w .annotations) r4 b3 s4 (in-region w S room annotations) (omega (arith, f .next, s3 .next)) in
-    let b5 = more _ out y4 (at declarations) y5 r4 (w .declarations) r5 b4 s5 (in-region w S room declarations) (omega (arith, f .next, s3 .next, s4 .next)) in
-    b5 .written
+    let b2 : Begun (header bound ++ allWords (capabilityInstructions cs)) out y at = record { written = f .written; size = simp length-append (omega (arith, f .next, caps-length cs)) } in
+    let b3 = more _ _ out y z3 at m3 (w .names) b2 q3 (sym (taken w S room names)) (omega (arith, f .next)) in
+    let b4 = more _ _ out _ z4 (at + w .names) m4 (w .annotations) b3 q4 (sym (taken w S room annotations)) (omega (arith, f .next)) in
+    more _ _ out _ z5 (at + w .names + w .annotations) m5 (w .declarations) b4 q5 (sym (taken w S room declarations)) (omega (arith, f .next)) .written
 
 -- ---- the answers
 

@@ -3,19 +3,17 @@
 // both tests are passed, and the sections are taken as they are.
 use spirv::instructions::capability;
 use spirv::layout::PhysicalLayout;
-use spirv::layout::section;
+use spirv::words::put_words;
 use writer::ANNOTATIONS;
 use writer::DECLARATIONS;
 use writer::NAMES;
 use writer::Writer;
 ghost use mathlib.Core.Path.{_≡_};
 ghost use Prim.Native.Nat.{_+_, _*_, _≤_, _<_};
-ghost use lib.ListN.{length, drop};
-ghost use Rattle.definition.specs.Instructions.{words, allWords};
-ghost use Rattle.definition.specs.Instructions.{capability as capabilityOf};
+ghost use lib.ListN.{length, take, drop};
+ghost use Rattle.definition.specs.Instructions.{allWords};
 ghost use Rattle.definition.specs.State.{capabilityInstructions};
 ghost use Rattle.spirv.specs.Put.{Put};
-ghost use Rattle.spirv.specs.Sections.{Spliced};
 ghost use Rattle.module_layout.specs.Finished.{Front, Roomy, countOf, wordsIn, Finished};
 
 // What Declare answers: the word count and the bound, or the number of the refusal.
@@ -32,15 +30,7 @@ const CAPABILITY_WORDS: usize = 2;
 // The Specification's limit of a bound.
 pub const BOUND_MOST: u64 = 4194303;
 
-fn put_capability(out: &mut [u32], at: usize, c: u32) -> usize
-    requires { ⌜ at + 2 ≤ length (now out) ⌝ }
-    ensures { λ r. ⌜ Spliced (now (out .entry)) at (words (capabilityOf c)) 2 (now (out .exit)) r ⌝ }
-{
-    capability(&mut out[at..], c);
-    at + CAPABILITY_WORDS
-}
-
-// An OpCapability for each number.
+// An OpCapability for each number, each in what is left of the buffer behind those before it.
 fn put_capabilities(out: &mut [u32], numbers: &[u32]) -> usize
     requires { ⌜ 2 * length (now numbers) ≤ length (now out) ⌝ }
     ensures { λ r. ⌜ Put (allWords (capabilityInstructions (now (numbers .entry)))) (now (out .entry)) (now (out .exit)) r ⌝ }
@@ -48,7 +38,8 @@ fn put_capabilities(out: &mut [u32], numbers: &[u32]) -> usize
     let mut i = 0;
     let mut at = 0;
     while i < numbers.len() {
-        at = put_capability(out, at, numbers[i]);
+        capability(&mut out[at..], numbers[i]);
+        at += CAPABILITY_WORDS;
         i += 1;
     }
     at
@@ -64,12 +55,13 @@ fn put_front(out: &mut [u32], bound: u32, numbers: &[u32]) -> usize
     HEADER_WORDS + CAPABILITY_WORDS * numbers.len()
 }
 
-// The n words that stand from a place of the sections on, to a place of the buffer; gives the place behind them.
-fn put_region(out: &mut [u32], at: usize, sections: &[u32], start: usize, n: usize) -> usize
-    requires { ⌜ (at + n ≤ length (now out)) × (start + n ≤ length (now sections)) ⌝ }
-    ensures { λ r. ⌜ Spliced (now (out .entry)) at (drop start (now (sections .entry))) n (now (out .exit)) r ⌝ }
+// The n words that stand from a place of the sections on, at the front of what is left of the buffer.
+fn put_section(left: &mut [u32], sections: &[u32], start: usize, n: usize) -> usize
+    requires { ⌜ start + n ≤ length (now sections) ⌝ }
+    ensures { λ r. ⌜ Put (take n (drop start (now (sections .entry)))) (now (left .entry)) (now (left .exit)) r ⌝ }
 {
-    section(out, at, &sections[start..], n)
+    let end = start + n;
+    put_words(left, &sections[start..end])
 }
 
 // How many words the module has.
@@ -80,16 +72,30 @@ fn module_count(w: Writer) -> usize
     HEADER_WORDS + CAPABILITY_WORDS * w.capabilities + w.names + w.annotations + w.declarations
 }
 
-// The header and the four sections, in a buffer that has room for them.
+// The header and the four sections, in a buffer that has room for them: each section's writer is lent what is left from the
+// current place on.
 fn put_module(out: &mut [u32], sections: &[u32], w: Writer, bound: u32) -> usize
     requires { ⌜ Roomy w (now sections) × (countOf w ≤ length (now out)) ⌝ }
     ensures { λ r. ⌜ Put (wordsIn w (now (sections .entry)) bound) (now (out .entry)) (now (out .exit)) r ⌝ }
 {
     let k = w.capabilities;
     let first = put_front(out, bound, &sections[..k]);
-    let second = put_region(out, first, sections, NAMES * w.bytes, w.names);
-    let third = put_region(out, second, sections, ANNOTATIONS * w.bytes, w.annotations);
-    put_region(out, third, sections, DECLARATIONS * w.bytes, w.declarations)
+    put_section(&mut out[first..], sections, NAMES * w.bytes, w.names);
+    let second = first + w.names;
+    put_section(
+        &mut out[second..],
+        sections,
+        ANNOTATIONS * w.bytes,
+        w.annotations,
+    );
+    let third = second + w.annotations;
+    put_section(
+        &mut out[third..],
+        sections,
+        DECLARATIONS * w.bytes,
+        w.declarations,
+    );
+    third + w.declarations
 }
 
 // Tests 15 and 16, and then the module; a refusal writes nothing.

@@ -5,9 +5,10 @@ ghost use mathlib.Core.Bool.{true, false};
 ghost use Prim.Native.Nat.{_+_, _<_};
 ghost use lib.ListN.{drop};
 ghost use Rattle.definition.specs.Bytes.{u16At};
-ghost use Rattle.definition.specs.Sheet.{recordAt, tagRank};
+ghost use Rattle.definition.specs.Sheet.{flagsOf, optionsOf, recordAt, tagRank};
 ghost use Rattle.definition.specs.Tests.{Seen, headerTest, noRecord, outOfOrder, room, placeTest};
 ghost use Rattle.records.specs.Counted.{Counted};
+ghost use Rattle.records.specs.Flags.{optionsFrom};
 
 pub const SHEET_LEAST: usize = 6;
 
@@ -35,6 +36,12 @@ pub struct Counts {
     pub globals: usize,
 }
 
+// What the flags of a sheet ask for: bit 0 debug names, bit 1 native workgroup zeroing.
+pub struct Options {
+    pub debug: bool,
+    pub zeroing: bool,
+}
+
 // Tests 1, 2 and 3: the number of the first that fails, or 0.
 pub fn header_test(s: &[u8]) -> u8
     ensures { λ r. ⌜ r ≡ headerTest (now (s .entry)) ⌝ }
@@ -52,6 +59,17 @@ pub fn header_test(s: &[u8]) -> u8
         return 3;
     }
     0
+}
+
+// The options of a sheet, by its flags.
+pub fn options_of(s: &[u8]) -> Options
+    ensures { λ r. ⌜ optionsFrom r ≡ optionsOf (flagsOf (now (s .entry))) ⌝ }
+{
+    let flags = fields::u8_at(s, 5);
+    Options {
+        debug: flags % 2 == 1,
+        zeroing: flags / 2 % 2 == 1,
+    }
 }
 
 // What is left of the sheet from a place on.

@@ -14,17 +14,17 @@ ghost use Rattle.sheet_fields.specs.Fields.{recordOf};
 ghost use Rattle.sheet.specs.Hash.{hashOf, HashFor, Hashed, Unlike};
 ghost use Rattle.sheet.specs.Reading.{Looked, Stored};
 
-const STRUCT: u8 = 23;
-
 // Where the name and the fixed fields of a type end, and the members of a struct begin.
 fn fixed_end(t: u8, b: &[u8]) -> usize
     ensures { λ r. ⌜ r ≤ length (now (b .entry)) ⌝ }
 {
-    if t != STRUCT {
-        return b.len();
+    match t {
+        23 => {
+            let end = fields::name_end(b, 0) + 5;
+            if end < b.len() { end } else { b.len() }
+        }
+        _ => b.len(),
     }
-    let end = fields::name_end(b, 0) + 5;
-    if end < b.len() { end } else { b.len() }
 }
 
 // Where the member that begins at p ends: behind its type, its offset and its name.

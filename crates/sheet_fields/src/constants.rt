@@ -1,4 +1,5 @@
-// The fields of a constant: an arm for each tag, in the order of document 01's list.
+// The fields of a constant: an arm for each tag, and for each form of a literal, in the order of document 01's list. What is no
+// constant's tag (test 5) or no form (test 10) has the fields of the last, here as in the definition.
 use crate::values::size_fits;
 ghost use mathlib.Core.Path.{_≡_};
 ghost use mathlib.Core.Bool.{_&&_};
@@ -17,6 +18,7 @@ fn literal_end(b: &[u8]) -> usize
         1 => 5,
         2 => 5,
         3 => 5,
+        4 => 2,
         _ => 2,
     }
 }
@@ -29,6 +31,7 @@ pub fn end_of(t: u8, b: &[u8]) -> usize
         65 => 2,
         66 => 2,
         67 => 4 + 2 * fields::u16_at(b, 2) as usize,
+        68 => 3,
         _ => 3,
     }
 }
@@ -42,6 +45,7 @@ fn literal_fits(b: &[u8]) -> bool
         1 => true,
         2 => true,
         3 => true,
+        4 => fields::u8_at(b, 1) <= 1,
         _ => fields::u8_at(b, 1) <= 1,
     }
 }
@@ -54,6 +58,7 @@ pub fn values_fit(t: u8, b: &[u8]) -> bool
         65 => true,
         66 => true,
         67 => true,
+        68 => size_fits(fields::u8_at(b, 0)),
         _ => size_fits(fields::u8_at(b, 0)),
     }
 }
@@ -95,6 +100,7 @@ pub fn read_already(t: u8, b: &[u8], types: usize, constants: usize) -> bool
         65 => one_below(b, 0, constants),
         66 => one_below(b, 0, types),
         67 => compose_read(b, types, constants),
+        68 => one_below(b, 1, constants),
         _ => one_below(b, 1, constants),
     }
 }

@@ -1,6 +1,7 @@
 // The fields of a record, by its tag: where they end (test 8), its names (9), its values (10) and its references (11).
 // Each function answers for every tag and every body, whether or not the tests before it passed; document 01's order of them is
-// kept by `sheet`. No field is kept here: `entries` takes them by value once the tests are passed.
+// kept by `sheet`. No field is kept here: `entries` takes them by value once the tests are passed. What is no tag,
+// which test 5 refuses, has a global's fields, here as in the definition.
 mod constants;
 mod globals;
 mod members;
@@ -19,10 +20,10 @@ ghost use Rattle.sheet_fields.specs.Fields.{recordOf};
 pub fn form_known(t: u8, b: &[u8]) -> bool
     ensures { λ r. ⌜ r ≡ formKnown (recordOf t (now (b .entry))) ⌝ }
 {
-    if t == 64 {
-        return fields::u8_at(b, 0) <= 4;
+    match t {
+        64 => fields::u8_at(b, 0) <= 4,
+        _ => true,
     }
-    true
 }
 
 // Where the fields end. Test 8 asks that the body ends there too.
@@ -34,6 +35,7 @@ pub fn fields_end(t: u8, b: &[u8]) -> usize
         2 => 12,
         3 => types::end_of(t, b, fields::name_end(b, 0)),
         4 => constants::end_of(t, b),
+        5 => fields::name_end(b, 0) + 15,
         _ => fields::name_end(b, 0) + 15,
     }
 }
@@ -47,6 +49,7 @@ pub fn names_fit(t: u8, b: &[u8]) -> bool
         2 => true,
         3 => fields::name_fits(b, 0) && types::names_fit(t, b, fields::name_end(b, 0)),
         4 => true,
+        5 => fields::name_fits(b, 0),
         _ => fields::name_fits(b, 0),
     }
 }
@@ -60,6 +63,7 @@ pub fn values_fit(t: u8, b: &[u8]) -> bool
         2 => 0 < fields::u32_at(b, 8),
         3 => types::values_fit(t, b, fields::name_end(b, 0)),
         4 => constants::values_fit(t, b),
+        5 => globals::values_fit(b, fields::name_end(b, 0)),
         _ => globals::values_fit(b, fields::name_end(b, 0)),
     }
 }
@@ -73,6 +77,7 @@ pub fn read_already(t: u8, b: &[u8], types: usize, constants: usize) -> bool
         2 => true,
         3 => types::read_already(t, b, fields::name_end(b, 0), types),
         4 => constants::read_already(t, b, types, constants),
+        5 => globals::read_already(b, fields::name_end(b, 0), types, constants),
         _ => globals::read_already(b, fields::name_end(b, 0), types, constants),
     }
 }

@@ -1,4 +1,5 @@
-// The fields of a type behind its name, which ends at n: an arm for each tag, in the order of document 01's list.
+// The fields of a type behind its name, which ends at n: an arm for each tag, in the order of document 01's list. What is no
+// type's tag, which test 5 refuses, has the fields of the last, here as in the definition.
 use crate::constants::one_below;
 use crate::members;
 use crate::values::class_fits;
@@ -31,6 +32,7 @@ pub fn end_of(t: u8, b: &[u8], n: usize) -> usize
         25 => n + 1,
         26 => n,
         27 => n,
+        28 => n + 6,
         _ => n + 6,
     }
 }
@@ -40,10 +42,22 @@ pub fn names_fit(t: u8, b: &[u8], n: usize) -> bool
     requires { ⌜ n < 300 ⌝ }
     ensures { λ r. ⌜ r ≡ every nameFits (innerNames (typeFields t (now (b .entry)) n .value)) ⌝ }
 {
-    if t == 23 {
-        return members::names_fit(b, n + 5, fields::u8_at(b, n + 4));
+    match t {
+        16 => true,
+        17 => true,
+        18 => true,
+        19 => true,
+        20 => true,
+        21 => true,
+        22 => true,
+        23 => members::names_fit(b, n + 5, fields::u8_at(b, n + 4)),
+        24 => true,
+        25 => true,
+        26 => true,
+        27 => true,
+        28 => true,
+        _ => true,
     }
-    true
 }
 
 pub fn values_fit(t: u8, b: &[u8], n: usize) -> bool
@@ -63,6 +77,7 @@ pub fn values_fit(t: u8, b: &[u8], n: usize) -> bool
         25 => fields::u8_at(b, n) <= 1,
         26 => true,
         27 => true,
+        28 => true,
         _ => true,
     }
 }
@@ -85,6 +100,7 @@ pub fn read_already(t: u8, b: &[u8], n: usize, types: usize) -> bool
         25 => true,
         26 => true,
         27 => true,
+        28 => one_below(b, n, types),
         _ => one_below(b, n, types),
     }
 }

@@ -180,7 +180,7 @@ module _ (s T₀ S₀ m₀ : List ℕ) (p₀ : Places) (nr nb : ℕ) (T S m : Li
         room = λ z. tested-room z .0;
       }
 
-      module _ (t : Turn) (T′ S′ m′ : List ℕ) (turn : Turned s (p .remaps) (p .types) k v rest (flagsOf s) w T S t T′ S′ m′) where
+      module _ (t : Turn) (T′ S′ m′ : List ℕ) (turn : Turned s (p .remaps) (p .types) k v rest o w T S t T′ S′ m′) where
         -- the definition's own test, in the state that is held
         tested : t .refused ≡ recordTest now (recordAt (drop at s))
         tested = rw (← e) (turn .told (seenOf s p k) (before s p k v (h .ample) (h .few) (h .available)) (h .state) (h .held))

@@ -11,7 +11,7 @@ use borrow.Author.Tests.{ltb-true}
 use lib.Dec.{eqb, ltb}
 use lib.ListN.{length, take, length-take, length-drop}
 use Rattle.definition.specs.Choice.{unless}
-use Rattle.definition.specs.Sheet.{Record, Fields, Entry, Remap, recordAt, entryOf, optionsOf, tagRank, available, remap}
+use Rattle.definition.specs.Sheet.{Record, Fields, Entry, Remap, recordAt, Options, entryOf, tagRank, available, remap}
 use Rattle.definition.specs.Tests.{Seen, below, readingTest}
 use Rattle.definition.specs.State.{State}
 use Rattle.definition.specs.Rules.{declareEntry, declareType, declareConstant}
@@ -123,35 +123,35 @@ module _ (s rs ts : List ℕ) (k : Counts) (rest : List ℕ) (p : Passed s rs ts
 
   -- ---- the entry is declared
 
-  module _ (flags : ℕ) (w : Writer) (T S : List ℕ) (v : Writer) (T′ S′ : List ℕ) where
+  module _ (o : Options) (w : Writer) (T S : List ℕ) (v : Writer) (T′ S′ : List ℕ) where
     abbrev l : ℕ
     l = length (r .body) + 3
 
-    pub type-written : tagRank (r .tag) ≡ 3 → (debug : Bool) → debug ≡ eqb (flags % 2) 1 → Kept (recordCost l) (declareType debug (typesFrom s ts (k .types)) (recordType r)) w T S v T′ S′ → EntryWritten s rs ts k rest flags w T S v T′ S′
-    type-written e debug d q = record {
+    pub type-written : tagRank (r .tag) ≡ 3 → Kept (recordCost l) (declareType (o .debug) (typesFrom s ts (k .types)) (recordType r)) w T S v T′ S′ → EntryWritten s rs ts k rest o w T S v T′ S′
+    type-written e q = record {
       grown = rw e (q .grown);
       held = λ n b x h. let u = sym (b .types) in subst (Held v T′ S′)
-          ((λ i. declareType (d i) (u i) (recordType r) x) ∙ sym (ap (λ (f : Fields Entry). declareEntry (optionsOf flags) n (f .value) x) (is-type r e))) (q .held x h);
+          ((λ i. declareType (o .debug) (u i) (recordType r) x) ∙ sym (ap (λ (f : Fields Entry). declareEntry o n (f .value) x) (is-type r e))) (q .held x h);
     }
 
-    pub constant-written : tagRank (r .tag) ≡ 4 → ConstantWritten (recordCost l) (typesFrom s ts (k .types)) (Defined.constantFields (r .tag) (r .body) .value) w T S v T′ S′ → EntryWritten s rs ts k rest flags w T S v T′ S′
+    pub constant-written : tagRank (r .tag) ≡ 4 → ConstantWritten (recordCost l) (typesFrom s ts (k .types)) (Defined.constantFields (r .tag) (r .body) .value) w T S v T′ S′ → EntryWritten s rs ts k rest o w T S v T′ S′
     constant-written e q = record {
       grown = rw e (q .grown);
       held = λ n b x h. let u = sym (b .types) in subst (Held v T′ S′)
-          ((λ i. declareConstant (u i) (Defined.constantFields (r .tag) (r .body) .value) x) ∙ sym (ap (λ (f : Fields Entry). declareEntry (optionsOf flags) n (f .value) x) (is-constant r e))) (q .held x h);
+          ((λ i. declareConstant (u i) (Defined.constantFields (r .tag) (r .body) .value) x) ∙ sym (ap (λ (f : Fields Entry). declareEntry o n (f .value) x) (is-constant r e))) (q .held x h);
     }
 
-    pub global-written : tagRank (r .tag) ≡ 5 → GlobalKept (recordCost l) flags (typesFrom s ts (k .types)) (map (remapFrom s) (take (k .remaps) rs)) (Defined.globalFields (r .body) (nameEnd (r .body) 0) .value) w T S v T′ S′ → EntryWritten s rs ts k rest flags w T S v T′ S′
+    pub global-written : tagRank (r .tag) ≡ 5 → GlobalKept (recordCost l) o (typesFrom s ts (k .types)) (map (remapFrom s) (take (k .remaps) rs)) (Defined.globalFields (r .body) (nameEnd (r .body) 0) .value) w T S v T′ S′ → EntryWritten s rs ts k rest o w T S v T′ S′
     global-written e q = record {
       grown = rw e (q .grown);
       held = λ n b x h. subst (Held v T′ S′)
-          (sym (ap (λ (f : Fields Entry). declareEntry (optionsOf flags) n (f .value) x) (is-global r e))) (q .held n (b .types) (b .remaps) x h);
+          (sym (ap (λ (f : Fields Entry). declareEntry o n (f .value) x) (is-global r e))) (q .held n (b .types) (b .remaps) x h);
     }
 
-  pub other-written : (flags : ℕ) (w : Writer) (T S : List ℕ) (q : ℕ) → q ≡ tagRank (r .tag) → (q ≡ 3 → ⊥) → (q ≡ 4 → ⊥) → (q ≡ 5 → ⊥) → EntryWritten s rs ts k rest flags w T S w T S
-  other-written flags w T S q e f g i = record {
+  pub other-written : (o : Options) (w : Writer) (T S : List ℕ) (q : ℕ) → q ≡ tagRank (r .tag) → (q ≡ 3 → ⊥) → (q ≡ 4 → ⊥) → (q ≡ 5 → ⊥) → EntryWritten s rs ts k rest o w T S w T S
+  other-written o w T S q e f g i = record {
     grown = still;
-    held = λ n b x h. other (λ (y : Entry). Held w T S (declareEntry (optionsOf flags) n y x)) (λ cs. h) (λ m. h) q e f g i;
+    held = λ n b x h. other (λ (y : Entry). Held w T S (declareEntry o n y x)) (λ cs. h) (λ m. h) q e f g i;
   }
     where
       still : Grown (costAt rest) w w

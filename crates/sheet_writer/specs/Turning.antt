@@ -5,7 +5,7 @@ use mathlib.Core.List.{List}
 use lib.Dec.{ltb}
 use lib.ListN.{length}
 use Rattle.definition.specs.Choice.{pick}
-use Rattle.definition.specs.Sheet.{optionsOf, recordAt, entryOf, tagRank}
+use Rattle.definition.specs.Sheet.{Options, recordAt, entryOf, tagRank}
 use Rattle.definition.specs.Tests.{Seen, readingTest}
 use Rattle.definition.specs.State.{State}
 use Rattle.definition.specs.Rules.{declareEntry}
@@ -60,12 +60,12 @@ abbrev pub FitnessTold : List ℕ → List ℕ → List ℕ → Counts → Avail
 FitnessTold s rs ts k a rest w T r = (n : Seen) → Before s rs ts k a n → (S : List ℕ) (x : State) → Held w T S x → r ≡ fitnessTest n x (entryOf (recordAt rest) .value)
 
 -- the record's entry is declared
-pub record EntryWritten (s rs ts : List ℕ) (k : Counts) (rest : List ℕ) (flags : ℕ) (w : Writer) (T S : List ℕ) (v : Writer) (T′ S′ : List ℕ) : Type 0 where
+pub record EntryWritten (s rs ts : List ℕ) (k : Counts) (rest : List ℕ) (o : Options) (w : Writer) (T S : List ℕ) (v : Writer) (T′ S′ : List ℕ) : Type 0 where
   pub grown : Grown (costAt rest) w v
-  pub held : (n : Seen) → Looked s rs ts k n → (x : State) → Held w T S x → Held v T′ S′ (declareEntry (optionsOf flags) n (entryOf (recordAt rest) .value) x)
+  pub held : (n : Seen) → Looked s rs ts k n → (x : State) → Held w T S x → Held v T′ S′ (declareEntry o n (entryOf (recordAt rest) .value) x)
 
 -- the turn whole: the number that the definition's test answers, and where that is 0 the entry is declared
-pub record Turned (s rs ts : List ℕ) (k : Counts) (a : Available) (rest : List ℕ) (flags : ℕ) (w : Writer) (T S : List ℕ) (r : Turn) (T′ S′ m′ : List ℕ) : Type 0 where
+pub record Turned (s rs ts : List ℕ) (k : Counts) (a : Available) (rest : List ℕ) (o : Options) (w : Writer) (T S : List ℕ) (r : Turn) (T′ S′ m′ : List ℕ) : Type 0 where
   pub memo : Memo (typesFrom s ts (k .types)) m′
   pub told : (n : Seen) → Before s rs ts k a n → (x : State) → Held w T S x → r .refused ≡ recordTest (record { seen = n; state = x }) (recordAt rest)
-  pub written : r .refused ≡ 0 → EntryWritten s rs ts k rest flags w T S (r .writer) T′ S′
+  pub written : r .refused ≡ 0 → EntryWritten s rs ts k rest o w T S (r .writer) T′ S′

@@ -2,6 +2,7 @@
 // share. It decides refusals in document 01's order: 13 at one record comes before 5 at the next. 15 is left to the operations.
 use availability::Available;
 use records::Counts;
+use records::Options;
 use sheet::hash;
 use sheet::holding;
 use writer::Writer;
@@ -17,6 +18,7 @@ ghost use Rattle.definition.specs.Sheet.{recordAt, typeFields};
 ghost use Rattle.definition.specs.Tests.{innerFits};
 ghost use Rattle.definition.specs.Shapes.{shapeOf};
 ghost use Rattle.definition.specs.Unfit.{shapeAvailable};
+ghost use Rattle.records.specs.Flags.{optionsFrom};
 ghost use Rattle.records.specs.Places.{typesFrom, placesOf, Ample};
 ghost use Rattle.zeroable.specs.Memo.{Memo};
 ghost use Rattle.availability.specs.Flags.{Flagged};
@@ -96,10 +98,10 @@ fn write_entry(
     types: &[u32],
     k: Counts,
     rest: &[u8],
-    flags: u8,
+    options: Options,
 ) -> Writer
     requires { ⌜ Passed (now s) (now remaps) (now types) k (now rest) × ((k .remaps ≤ length (now remaps)) × ((k .types ≤ length (now types)) × ((k .types ≤ 256) × ((length (now rest) ≤ 16384) × Room (costAt (now rest)) w (now tables) (now sections))))) ⌝ }
-    ensures { λ r. ⌜ EntryWritten (now (s .entry)) (now (remaps .entry)) (now (types .entry)) k (now (rest .entry)) flags w (now (tables .entry)) (now (sections .entry)) r (now (tables .exit)) (now (sections .exit)) ⌝ }
+    ensures { λ r. ⌜ EntryWritten (now (s .entry)) (now (remaps .entry)) (now (types .entry)) k (now (rest .entry)) (optionsFrom options) w (now (tables .entry)) (now (sections .entry)) r (now (tables .exit)) (now (sections .exit)) ⌝ }
 {
     match records::rank_of(records::tag_of(rest)) {
         3 => writer_types::write_type_declaration_arena(
@@ -110,7 +112,7 @@ fn write_entry(
             types,
             k.types,
             rest,
-            flags % 2 == 1,
+            options.debug,
         ),
         4 => writer_constants::write_constant(tables, sections, w, s, types, k.types, rest),
         5 => writer_globals::write_global(
@@ -123,7 +125,7 @@ fn write_entry(
             remaps,
             k.remaps,
             rest,
-            flags,
+            options,
         ),
         _ => w,
     }
@@ -142,10 +144,10 @@ fn record_turn(
     available: Available,
     rest: &[u8],
     hash: u32,
-    flags: u8,
+    options: Options,
 ) -> Turn
     requires { ⌜ Ready (now s) (now remaps) (now types) k (now rest) hash (now tables) (now sections) (now memo) w ⌝ }
-    ensures { λ r. ⌜ Turned (now (s .entry)) (now (remaps .entry)) (now (types .entry)) k available (now (rest .entry)) flags w (now (tables .entry)) (now (sections .entry)) r (now (tables .exit)) (now (sections .exit)) (now (memo .exit)) ⌝ }
+    ensures { λ r. ⌜ Turned (now (s .entry)) (now (remaps .entry)) (now (types .entry)) k available (now (rest .entry)) (optionsFrom options) w (now (tables .entry)) (now (sections .entry)) r (now (tables .exit)) (now (sections .exit)) (now (memo .exit)) ⌝ }
 {
     let r = sheet::record_test(s, remaps, types, k, rest, hash);
     if r != 0 {
@@ -161,7 +163,7 @@ fn record_turn(
             writer: w,
         };
     }
-    let v = write_entry(tables, sections, w, s, remaps, types, k, rest, flags);
+    let v = write_entry(tables, sections, w, s, remaps, types, k, rest, options);
     Turn {
         refused: 0,
         writer: v,
@@ -190,7 +192,7 @@ pub fn write_sheet(
     if h != 0 {
         return Outcome::Refused(h);
     }
-    let flags = fields::u8_at(s, 5);
+    let options = records::options_of(s);
     let mut w = writer::new(nrecords, nbytes, fields::u32_at(s, 1) as u64);
     let mut at = records::HEADER;
     let mut k = holding::nothing();
@@ -213,7 +215,7 @@ pub fn write_sheet(
             available,
             rest,
             hash,
-            flags,
+            options,
         );
         let r = t.refused;
         if r != 0 {

@@ -10,7 +10,7 @@ use lib.Seq.{take-suc, take-length, take-all, take-at, drop-at, drop-cons, drop-
 use borrow.Author.Tests.{le-leb, lt-leb}
 use Rattle.definition.specs.Instructions.{put, putCount}
 use Rattle.spirv.specs.Put.{Put}
-use Rattle.spirv.specs.Sections.{splice, Spliced}
+use Rattle.spirv.specs.Sections.{splice}
 
 -- ---- there is room, or there is none
 
@@ -115,7 +115,7 @@ behind hs bs xs ys z k at m n p e q s room =
     let w = joined hs bs xs ys k at p e (omega arith) in
     record { words = lent ys at bs z m q (omega arith) ∙ w .words; count = s ∙ w .count }
 
--- some sections stand at the front; then one more
+-- some runs stand at the front
 pub record Begun (ws xs ys : List ℕ) (at : ℕ) : Type 0 where
   pub written : Put ws xs ys at
   pub size : at ≡ length ws
@@ -123,10 +123,10 @@ pub record Begun (ws xs ys : List ℕ) (at : ℕ) : Type 0 where
 pub start : (xs : List ℕ) → Begun [] xs xs 0
 start xs = record { written = put-of [] xs xs 0 refl refl (omega arith); size = refl }
 
-pub more : (ws xs ys src zs : List ℕ) (at n r : ℕ) → Begun ws xs ys at → Spliced ys at src n zs r → n ≤ length src → at + n ≤ length xs
-    → Begun (ws ++ take n src) xs zs r
-more ws xs ys src zs at n r b s h room =
-    let l : length (take n src) ≡ n = length-take-le n src h in
-    let w = joined ws (take n src) xs ys at at (b .written) (b .size) (omega arith) in
-    let e : r ≡ at + length (take n src) = s .next ∙ ap (λ (j : ℕ). at + j) (sym l) in
-    record { written = record { words = s .words ∙ w .words; count = e ∙ w .count }; size = simp length-append (omega (arith, b .size)) }
+-- then one more, in what is left of the buffer behind them
+pub more : (ws bs xs ys z : List ℕ) (at m n : ℕ) → Begun ws xs ys at → Put bs (part ys at) z m → n ≡ length bs → at + n ≤ length xs
+    → Begun (ws ++ bs) xs (back ys at z) (at + n)
+more ws bs xs ys z at m n b q e room = record {
+  written = behind ws bs xs ys z at at m (at + n) (b .written) (b .size) q (ap (λ (j : ℕ). at + j) e) room;
+  size = simp length-append (omega (arith, b .size));
+}

@@ -1,12 +1,11 @@
-// An instruction's words, the module's header, and its sections one behind the other.
+// An instruction's words, and the module's header.
 ghost use mathlib.Core.List.{_++_, map};
-ghost use Prim.Native.Nat.{_+_, _≤_, _<_};
+ghost use Prim.Native.Nat.{_≤_, _<_};
 ghost use lib.ListN.{length, getD, drop};
 ghost use Rattle.definition.specs.Instructions.{words, packed, plain, typeOp, valueOp, header};
 ghost use Rattle.spirv.specs.Put.{Put, FitsWordCount};
 ghost use Rattle.spirv.specs.Ids.{low};
 ghost use Rattle.spirv.specs.Heads.{head};
-ghost use Rattle.spirv.specs.Sections.{Spliced};
 use crate::helpers::string_to_words;
 use crate::words::put_ids;
 use crate::words::put_words;
@@ -112,13 +111,4 @@ impl PhysicalLayout {
     {
         put_words(sink, &[MAGIC_NUMBER, VERSION, GENERATOR, self.bound, 0])
     }
-}
-
-// Lends what is left of the buffer from a place on to the writer of a section's first n words, and gives the place behind them.
-pub fn section(out: &mut [u32], at: usize, src: &[u32], n: usize) -> usize
-    requires { ⌜ (at + n ≤ length (now out)) × (n ≤ length (now src)) ⌝ }
-    ensures { λ r. ⌜ Spliced (now (out .entry)) at (now (src .entry)) n (now (out .exit)) r ⌝ }
-{
-    put_words(&mut out[at..], &src[..n]);
-    at + n
 }

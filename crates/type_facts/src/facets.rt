@@ -1,5 +1,7 @@
-// Facets: a type as far as the rules ask of it. A type is read by its tag here and nowhere else; each question is then put
-// to its facet.
+// Facets: a type as far as the rules ask of a type that was read before. Its tag is looked at once, in `facet_of`; each question
+// is then put to the facet. Other fields are read by the tag where they are asked for, since a facet that had them all would be
+// the whole type: `sheet_fields` tests them, `entries` takes them for the type's own declaration, `zeroable` walks what is under a
+// type, and `writer_constants` asks for a scalar's kind and for the places of a Compose.
 use crate::Access;
 use crate::Base;
 use crate::Number;
@@ -34,8 +36,8 @@ fn image_facet(class: u8, access: u8) -> Facet
     Facet::Other
 }
 
-// Of a type with a tag and a body. Other are Scalar, Vector, Atomic, Sampler, AccelerationStructure and RayQuery. What has
-// no tag of these is a BindingArray, here as in the definition: test 5 lets no tag through that is no type's.
+// Of a type with a tag and a body. Other are Scalar, Vector, Atomic, Sampler, AccelerationStructure and RayQuery. What is no
+// type's tag is a BindingArray, here as in the definition: test 5 lets none through.
 pub fn facet_of(tag: u8, b: &[u8]) -> Facet
     ensures { λ r. ⌜ r ≡ facetOf (typeFields tag (now (b .entry)) (nameEnd (now (b .entry)) 0) .value) ⌝ }
 {
@@ -61,6 +63,9 @@ pub fn facet_of(tag: u8, b: &[u8]) -> Facet
         25 => Facet::Other,
         26 => Facet::Other,
         27 => Facet::Other,
+        28 => Facet::BindingArray {
+            base: fields::u16_at(b, at),
+        },
         _ => Facet::BindingArray {
             base: fields::u16_at(b, at),
         },

@@ -61,12 +61,14 @@ fn kind_code(k: u8, width: u8) -> u64
 fn literal_code(l: Literal) -> u64
     ensures { λ r. ⌜ r ≡ kindCode (some (literalKind (literalOf l))) ⌝ }
 {
-    match literals::form(l) {
-        0 => kind_code(2, 8),
-        1 => kind_code(2, 4),
-        2 => kind_code(1, 4),
-        3 => kind_code(0, 4),
-        _ => kind_code(3, 1),
+    match l {
+        Literal::F64(_) => kind_code(2, 8),
+        Literal::F32(_) => kind_code(2, 4),
+        Literal::Nan64(_) => kind_code(2, 8),
+        Literal::Nan32(_) => kind_code(2, 4),
+        Literal::U32(_) => kind_code(1, 4),
+        Literal::I32(_) => kind_code(0, 4),
+        Literal::Bool(_) => kind_code(3, 1),
     }
 }
 
@@ -74,11 +76,23 @@ fn literal_code(l: Literal) -> u64
 fn kind_in(tag: u8, d: &[u8]) -> u64
     ensures { λ r. ⌜ (r ≡ kindCode (kindOfScalar (typeFields tag (now (d .entry)) (nameEnd (now (d .entry)) 0) .value))) × (r < 1025) ⌝ }
 {
-    if tag != 16 {
-        return 0;
-    }
     let p = fields::name_end(d, 0);
-    kind_code(fields::u8_at(d, p), fields::u8_at(d, p + 1))
+    match tag {
+        16 => kind_code(fields::u8_at(d, p), fields::u8_at(d, p + 1)),
+        17 => 0,
+        18 => 0,
+        19 => 0,
+        20 => 0,
+        21 => 0,
+        22 => 0,
+        23 => 0,
+        24 => 0,
+        25 => 0,
+        26 => 0,
+        27 => 0,
+        28 => 0,
+        _ => 0,
+    }
 }
 
 // The same of type t of the first n.

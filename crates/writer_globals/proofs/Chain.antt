@@ -1,10 +1,9 @@
--- Test 13 of a global: each test by itself, and what the tests come to together.
+-- Test 13 of a global: the init, and what the tests come to together.
 use Prim.Native.Nat.{ℕ}
 use mathlib.Core.Path.{_≡_, sym, ap, _∙_}
 use mathlib.Core.Bool.{Bool, true, false, _&&_, _||_, not}
 use mathlib.Core.List.{List, [], _∷_}
 use mathlib.Core.Option.{Option, some, none}
-use borrow.Author.Tests.{eq-eqb, ne-eqb}
 use lib.Dec.{eqb}
 use Rattle.definition.specs.Choice.{among, orElse}
 use Rattle.definition.specs.Sheet.{TypeEntry, Global}
@@ -13,28 +12,6 @@ use Rattle.definition.specs.State.{State, idOf}
 use Rattle.definition.specs.Zeroable.{zeroable}
 use Rattle.definition.specs.Rules.{innerAt, valueAt}
 use Rattle.definition.specs.Unfit.{isPointer, initFits, ofType, globalFits}
-use Rattle.entries.specs.Globals.{boundNumber}
-use Rattle.entries.specs.declared.globals.Binding.{Binding}
-
--- ---- the binding, and who is zeroed
-
--- where a global of a binding may be
-abbrev binds : Binding → ℕ → Bool
-binds x space = not (eqb (boundNumber x) 1) || among space (3 ∷ 4 ∷ 5 ∷ [])
-
-module _ (x : Binding) (space : ℕ) where
-  pub not-bound : boundNumber x ≡ 0 → true ≡ binds x space
-  not-bound e = rw e
-
-  module _ (e : boundNumber x ≡ 1) where
-    pub bound-in : {k : ℕ} → space ≡ k → binds x space ≡ among k (3 ∷ 4 ∷ 5 ∷ [])
-    bound-in q = rw (e, q)
-
-    pub bound-elsewhere : (space ≡ 3 → ⊥) → (space ≡ 4 → ⊥) → (space ≡ 5 → ⊥) → false ≡ binds x space
-    bound-elsewhere a b c = rw (e, ne-eqb space 3 a, ne-eqb space 4 b, ne-eqb space 5 c)
-
-pub zeroed-else : (space : ℕ) → (space ≡ 1 → ⊥) → (space ≡ 2 → ⊥) → false ≡ among space (1 ∷ 2 ∷ [])
-zeroed-else space a b = rw (ne-eqb space 1 a, ne-eqb space 2 b)
 
 -- ---- the init
 
@@ -46,22 +23,20 @@ module _ (s : State) (g : Global) {space ty : ℕ} (es : g .space ≡ space) (et
     by-place : (b : Bool) → eqb (g .space) 1 ≡ b → initFits s g o ≡ (b && ofType s (entry (g .type)) c)
     by-place b q = ap (initFits s g) e ∙ ap (λ (b : Bool). b && ofType s (entry (g .type)) c) q
 
-    pub elsewhere : (space ≡ 1 → ⊥) → false ≡ initFits s g o
-    elsewhere n = sym (by-place false (ne-eqb (g .space) 1 (λ q. n (sym es ∙ q))))
+    pub elsewhere : eqb space 1 ≡ false → false ≡ initFits s g o
+    elsewhere n = sym (by-place false (ap (λ (k : ℕ). eqb k 1) es ∙ n))
 
-    pub of-type : space ≡ 1 → {x y : ℕ} → x ≡ valueAt s c .type → y ≡ orElse 0 (idOf s (entry ty)) → eqb x y ≡ initFits s g o
+    pub of-type : eqb space 1 ≡ true → {x y : ℕ} → x ≡ valueAt s c .type → y ≡ orElse 0 (idOf s (entry ty)) → eqb x y ≡ initFits s g o
     of-type z ex ey =
         let ez : orElse 0 (idOf s (entry ty)) ≡ orElse 0 (idOf s (entry (g .type))) = ap (λ (t : ℕ). orElse 0 (idOf s (entry t))) (sym et) in
-        (λ j. eqb (ex j) (ey j)) ∙ ap (eqb (valueAt s c .type)) ez ∙ sym (by-place true (eq-eqb (g .space) 1 (es ∙ z)))
+        (λ j. eqb (ex j) (ey j)) ∙ ap (eqb (valueAt s c .type)) ez ∙ sym (by-place true (ap (λ (k : ℕ). eqb k 1) es ∙ z))
 
 -- ---- all tests: one after the other, so that each way out computes
 
 abbrev chain : Bool → Bool → Bool → Bool → Bool → Bool → Bool
 chain f p b i a z = not f && (not p && (b && (i && (not a || z))))
 
-pub decided : (ts : List TypeEntry) (s : State) (g : Global) {k : ℕ} → k ≡ g .space → {f p b i a z : Bool} → f ≡ eqb k 0 → p ≡ isPointer (innerAt ts (g .type))
-    → b ≡ (not (eqb (g .bound) 1) || among k (3 ∷ 4 ∷ 5 ∷ [])) → i ≡ initFits s g (g .init) → a ≡ among k (1 ∷ 2 ∷ []) → z ≡ zeroable ts (g .type) → chain f p b i a z ≡ globalFits ts s g
+pub decided : (ts : List TypeEntry) (s : State) (g : Global) {f p b i a z : Bool} → f ≡ eqb (g .space) 0 → p ≡ isPointer (innerAt ts (g .type))
+    → b ≡ (not (eqb (g .bound) 1) || among (g .space) (3 ∷ 4 ∷ 5 ∷ [])) → i ≡ initFits s g (g .init) → a ≡ among (g .space) (1 ∷ 2 ∷ []) → z ≡ zeroable ts (g .type) → chain f p b i a z ≡ globalFits ts s g
 unfolding globalFits
-decided ts s g ek e₁ e₂ e₃ e₄ e₅ e₆ =
-    (λ j. chain (e₁ j) (e₂ j) (e₃ j) (e₄ j) (e₅ j) (e₆ j))
-    ∙ (λ j. chain (eqb (ek j) 0) (isPointer (innerAt ts (g .type))) (not (eqb (g .bound) 1) || among (ek j) (3 ∷ 4 ∷ 5 ∷ [])) (initFits s g (g .init)) (among (ek j) (1 ∷ 2 ∷ [])) (zeroable ts (g .type)))
+decided ts s g e₁ e₂ e₃ e₄ e₅ e₆ = λ j. chain (e₁ j) (e₂ j) (e₃ j) (e₄ j) (e₅ j) (e₆ j)

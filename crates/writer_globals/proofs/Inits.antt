@@ -2,12 +2,10 @@
 -- words in the same order, so that the cases of the program are its cases.
 use Prim.Native.Nat.{ℕ}
 use mathlib.Core.Path.{_≡_, refl, sym, ap, _∙_}
-use mathlib.Core.Bool.{Bool, true, false, _&&_, _||_}
+use mathlib.Core.Bool.{Bool, true, false}
 use mathlib.Core.List.{List}
 use mathlib.Core.Option.{Option, some, none}
 use native.Mathlib.Omega.{arith}
-use borrow.Author.Tests.{eq-eqb, ne-eqb}
-use lib.Dec.{eqb}
 use Rattle.definition.specs.Shapes.{entry}
 use Rattle.definition.specs.Finding.{find, nullOf}
 use Rattle.definition.specs.Rules.{initFor, valueAt}
@@ -61,15 +59,3 @@ module _ (o : Option ℕ) (null : Bool) (t : ℕ) {w : Writer} {T S : List ℕ} 
         (λ j. initFor (e j) (n j) t s) ∙ sym (λ j. record { init = some (r j .id); state = r j .state }) in
         rw c (record { named = ap some (y .named); held = y .held });
   }
-
--- ---- who gets a null
-
-module _ (z : Bool) {space : ℕ} where
-  pub null-at1 : space ≡ 1 → true ≡ (eqb space 1 || (eqb space 2 && z))
-  null-at1 e = rw (eq-eqb space 1 e)
-
-  pub null-at2 : space ≡ 2 → z ≡ (eqb space 1 || (eqb space 2 && z))
-  null-at2 e = rw e
-
-  pub null-else : {k : ℕ} → k ≡ space → (k ≡ 1 → ⊥) → (k ≡ 2 → ⊥) → false ≡ (eqb space 1 || (eqb space 2 && z))
-  null-else e a b = rw (ne-eqb space 1 (λ q. a (e ∙ q)), ne-eqb space 2 (λ q. b (e ∙ q)))

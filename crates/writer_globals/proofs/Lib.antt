@@ -4,3 +4,4 @@ pub mod PointerForms
 pub mod Inits
 pub mod Whole
 pub mod Chain
+pub mod Spaces

@@ -19,6 +19,8 @@ use Rattle.definition.specs.State.{State, annotate}
 use Rattle.definition.specs.Finding.{find}
 use Rattle.definition.specs.Rules.{innerAt, annotateIf, labelIf, imageAccess, accessOf, decorateAccess, blockBase, block}
 use Rattle.kinds.specs.Numbers.{spaceNumber, spaceAccess}
+use Rattle.kinds.specs.declared.AddressSpace.{AddressSpace}
+use Rattle.kinds.specs.declared.AddressSpace.the-variants.{Storage}
 use Rattle.entries.specs.Globals.{globalOf}
 use Rattle.entries.specs.declared.globals.Binding.{Binding}
 use Rattle.entries.specs.declared.globals.Binding.the-variants.{Bound}
@@ -60,15 +62,15 @@ if-there id d b e p = added-as (λ s. ap (λ (q : Bool). annotateIf q (decorate 
 
 -- ---- load and store
 
-module _ (ts : List TypeEntry) (g : GlobalVariable) (b : List ℕ) (k : ℕ) (ek : k ≡ spaceNumber (g .space)) where
+module _ (ts : List TypeEntry) (g : GlobalVariable) (b : List ℕ) where
   by-space : (c : Bool) → eqb (spaceNumber (g .space)) 4 ≡ c → accessOf ts (globalOf b g) ≡ pick c (some (spaceAccess (g .space))) (imageAccess (innerAt ts (g .ty)))
   by-space c e = ap (λ (c : Bool). pick c (some (spaceAccess (g .space))) (imageAccess (innerAt ts (g .ty)))) e
 
-  pub storage-access : k ≡ 4 → {a : ℕ} → a ≡ spaceAccess (g .space) → some a ≡ accessOf ts (globalOf b g)
-  storage-access e ea = ap some ea ∙ sym (by-space true (eq-eqb (spaceNumber (g .space)) 4 (sym ek ∙ e)))
+  pub storage-access : {a : ℕ} → g .space ≡ Storage a → some a ≡ accessOf ts (globalOf b g)
+  storage-access e = sym (by-space true (ap (λ (s : AddressSpace). eqb (spaceNumber s) 4) e) ∙ ap (λ (s : AddressSpace). some (spaceAccess s)) e)
 
-  pub other-access : (k ≡ 4 → ⊥) → {o : Option ℕ} → o ≡ imageAccess (innerAt ts (g .ty)) → o ≡ accessOf ts (globalOf b g)
-  other-access n e = e ∙ sym (by-space false (ne-eqb (spaceNumber (g .space)) 4 (λ q. n (ek ∙ q))))
+  pub other-access : eqb (spaceNumber (g .space)) 4 ≡ false → {o : Option ℕ} → o ≡ imageAccess (innerAt ts (g .ty)) → o ≡ accessOf ts (globalOf b g)
+  other-access n e = e ∙ sym (by-space false n)
 
 pub both-ways : (id x : ℕ) {w v u : Writer} {S S₁ S₂ : List ℕ} → Added (annotating 3) (annotateIf (eqb (x % 2) 0) (decorate id 25 [])) w S v S₁
     → Added (annotating 3) (annotateIf (eqb (x / 2 % 2) 0) (decorate id 24 [])) v S₁ u S₂ → (o : Option ℕ) → o ≡ some x → Added (annotating 6) (decorateAccess o id) w S u S₂
@@ -118,19 +120,16 @@ module _ (debug : Bool) (id : ℕ) (b : List ℕ) where
 
 -- ---- Block on the base
 
-module _ (space k : ℕ) (ek : k ≡ space) (o : Option ℕ) where
-  pub not-storage : (k ≡ 4 → ⊥) → (s : State) → blockBase (eqb space 4) o s ≡ s
-  not-storage n s = ap (λ (q : Bool). blockBase q o s) (ne-eqb space 4 (λ e. n (ek ∙ e)))
+module _ (storage : Bool) (o : Option ℕ) where
+  pub not-there : storage ≡ false → (s : State) → blockBase storage o s ≡ s
+  not-there e s = ap (λ (q : Bool). blockBase q o s) e
 
-  module _ (e : k ≡ 4) where
-    is-storage : eqb space 4 ≡ true
-    is-storage = eq-eqb space 4 (sym ek ∙ e)
-
-    pub no-base : o ≡ none → (s : State) → blockBase (eqb space 4) o s ≡ s
-    no-base z s = λ j. blockBase (is-storage j) (z j) s
+  module _ (e : storage ≡ true) where
+    pub no-base : o ≡ none → (s : State) → blockBase storage o s ≡ s
+    no-base z s = λ j. blockBase (e j) (z j) s
 
     pub on-base : {b : ℕ} → o ≡ some b → {w v : Writer} {T S T₁ S₁ S₂ : List ℕ} {f : Taken} → GotBy nothing (find (entry b)) w T S f T₁ S₁
-        → Puts annotations 3 (block (f .id)) (f .writer) S₁ v S₂ → Kept (annotating 3) (blockBase (eqb space 4) o) w T S v T₁ S₂
+        → Puts annotations 3 (block (f .id)) (f .writer) S₁ v S₂ → Kept (annotating 3) (blockBase storage o) w T S v T₁ S₂
     on-base {b = b} z {v = v} {T₁ = T₁} {S₂ = S₂} p q =
         record {
           grown = omega (arith, p .grown, q .grown);
@@ -138,6 +137,6 @@ module _ (space k : ℕ) (ek : k ≡ space) (o : Option ℕ) where
           held = λ s h.
               let g = p .gives s h in
               let t = find (entry b) s in
-              subst (Held v T₁ S₂) ((λ j. annotate (block (g .named j)) (t .state)) ∙ sym (λ j. blockBase (is-storage j) (z j) s))
+              subst (Held v T₁ S₂) ((λ j. annotate (block (g .named j)) (t .state)) ∙ sym (λ j. blockBase (e j) (z j) s))
               (q .held T₁ (t .state) (g .held));
         }

@@ -10,7 +10,7 @@ use lib.Dec.{eqb}
 use lib.ListN.{length}
 use Rattle.definition.specs.Bytes.{nameAt, nameEnd}
 use Rattle.definition.specs.Instructions.{name, variable}
-use Rattle.definition.specs.Sheet.{Record, TypeEntry, Remap, Global, optionsOf, globalFields, global}
+use Rattle.definition.specs.Sheet.{Record, TypeEntry, Remap, Global, Options, globalFields, global}
 use Rattle.definition.specs.Shapes.{storageClass}
 use Rattle.definition.specs.Tests.{Seen, valuesFit}
 use Rattle.definition.specs.State.{State, Got, takeId, declare}
@@ -73,11 +73,11 @@ as-bound : (b : List ℕ) (g : GlobalVariable) (x : Binding) (id : ℕ) (s : Sta
 as-bound b g Unbound id s = refl
 as-bound b g (Bound r) id s = refl
 
-module _ (flags : ℕ) (b : List ℕ) (g : GlobalVariable) (s : State) where
+module _ (o : Options) (b : List ℕ) (g : GlobalVariable) (s : State) where
   -- the rule, by what is read for it and by its id
   abbrev run : ℕ → Option ℕ → (ℕ → State → State) → (State → Got) → Option ℕ → Bool → ℕ → State
   run id access bind point base null class =
-      let a = bind id (decorateAccess access id (labelIf (eqb (flags % 2) 1) (name id) (nameAt b 0) (takeId s))) in
+      let a = bind id (decorateAccess access id (labelIf (o .debug) (name id) (nameAt b 0) (takeId s))) in
       let p = point a in
       let z = initFor (constantOf (g .init)) null (g .ty) (blockBase (eqb (spaceNumber (g .space)) 4) base (p .state)) in
       declare (variable (p .id) id class (z .init)) (z .state)
@@ -86,7 +86,7 @@ module _ (flags : ℕ) (b : List ℕ) (g : GlobalVariable) (s : State) where
   gl = globalOf b g
 
   abbrev nulls : Bool
-  nulls = eqb (spaceNumber (g .space)) 1 || (eqb (spaceNumber (g .space)) 2 && eqb (flags / 2 % 2) 1)
+  nulls = eqb (spaceNumber (g .space)) 1 || (eqb (spaceNumber (g .space)) 2 && o .zeroing)
 
   -- the same with the definition's parts
   abbrev ruled : List TypeEntry → List Remap → State
@@ -94,26 +94,26 @@ module _ (flags : ℕ) (b : List ℕ) (g : GlobalVariable) (s : State) where
       run (suc (s .last)) (accessOf ts gl) (λ id t. decorateBinding (eqb (boundNumber (g .binding)) 1) gl id t) (λ t. pointerOf (pointerFormIn ts rs gl) ts gl t) (bindingBase (innerAt ts (g .ty))) nulls
       (storageClass (spaceNumber (g .space)))
 
-  is-ruled : (d : Seen) (ts : List TypeEntry) (rs : List Remap) → d .types ≡ ts → d .remaps ≡ rs → ruled ts rs ≡ declareGlobal (optionsOf flags) d gl s
+  is-ruled : (d : Seen) (ts : List TypeEntry) (rs : List Remap) → d .types ≡ ts → d .remaps ≡ rs → ruled ts rs ≡ declareGlobal o d gl s
   unfolding declareGlobal
   is-ruled d ts rs et er = sym (λ j. ruled (et j) (er j))
 
 -- ---- the whole
 
-pub declared : (flags : ℕ) (ts : List TypeEntry) (rs : List Remap) (b : List ℕ) (g : GlobalVariable) {w : Writer} {T S : List ℕ} {t : Taken} → Took w t
-    → {v₁ : Writer} {S₁ : List ℕ} → Added (naming (nameEnd b 0 + 2)) (labelIf (eqb (flags % 2) 1) (name (t .id)) (nameAt b 0)) (t .writer) S v₁ S₁
+pub declared : (o : Options) (ts : List TypeEntry) (rs : List Remap) (b : List ℕ) (g : GlobalVariable) {w : Writer} {T S : List ℕ} {t : Taken} → Took w t
+    → {v₁ : Writer} {S₁ : List ℕ} → Added (naming (nameEnd b 0 + 2)) (labelIf (o .debug) (name (t .id)) (nameAt b 0)) (t .writer) S v₁ S₁
     → {a : Option ℕ} → a ≡ accessOf ts (globalOf b g) → {v₂ : Writer} {S₂ : List ℕ} → Added (annotating 6) (decorateAccess a (t .id)) v₁ S₁ v₂ S₂
     → {v₃ : Writer} {S₃ : List ℕ} → Added (annotating 8) (bindingDecorated (g .binding) (t .id)) v₂ S₂ v₃ S₃
     → (y : PointerForm) → ((x : State) → pointerBy y g x ≡ pointerOf (pointerFormIn ts rs (globalOf b g)) ts (globalOf b g) x)
     → {p : Taken} {T₄ S₄ : List ℕ} → GotBy pointerCost (pointerBy y g) v₃ T S₃ p T₄ S₄
     → {base : Option ℕ} → base ≡ bindingBase (innerAt ts (g .ty))
     → {v₅ : Writer} {T₅ S₅ : List ℕ} → Kept (annotating 3) (blockBase (eqb (spaceNumber (g .space)) 4) base) (p .writer) T₄ S₄ v₅ T₅ S₅
-    → {null : Bool} → null ≡ (eqb (spaceNumber (g .space)) 1 || (eqb (spaceNumber (g .space)) 2 && eqb (flags / 2 % 2) 1))
+    → {null : Bool} → null ≡ (eqb (spaceNumber (g .space)) 1 || (eqb (spaceNumber (g .space)) 2 && o .zeroing))
     → {z : Inited} {T₆ S₆ : List ℕ} → Initialised (initFor (constantOf (g .init)) null (g .ty)) v₅ T₅ S₅ z T₆ S₆
     → {class : ℕ} → class ≡ storageClass (spaceNumber (g .space))
     → {v₇ : Writer} {S₇ : List ℕ} → Puts declarations 5 (variable (p .id) (t .id) class (initOf (z .init))) (z .writer) S₆ v₇ S₇
-    → GlobalKept (globalCost (nameEnd b 0)) flags ts rs (globalOf b g) w T S v₇ T₆ S₇
-declared flags ts rs b g {w = w} {T = T} {S = S} {t = t} p₀ q₁ {a = a} ea q₂ q₃ y ey {p = p} q₄ {base = base} eb q₅ {null = null} en {z = z} {T₆ = T₆} {S₆ = S₆} q₆ {class = class} ec {v₇ = v₇} {S₇ = S₇} q₇ =
+    → GlobalKept (globalCost (nameEnd b 0)) o ts rs (globalOf b g) w T S v₇ T₆ S₇
+declared o ts rs b g {w = w} {T = T} {S = S} {t = t} p₀ q₁ {a = a} ea q₂ q₃ y ey {p = p} q₄ {base = base} eb q₅ {null = null} en {z = z} {T₆ = T₆} {S₆ = S₆} q₆ {class = class} ec {v₇ = v₇} {S₇ = S₇} q₇ =
     let before = p₀ .grown ▹ q₁ .grown ▹ q₂ .grown ▹ q₃ .grown in
     let based = before ▹ q₄ .grown ▹ q₅ .grown in
     record {
@@ -122,7 +122,7 @@ declared flags ts rs b g {w = w} {T = T} {S = S} {t = t} p₀ q₁ {a = a} ea q�
       held = λ d et er s h.
           let id = t .id in
           let ei : id ≡ suc (s .last) = p₀ .named ∙ ap suc (h .last) in
-          let s₁ = labelIf (eqb (flags % 2) 1) (name id) (nameAt b 0) (takeId s) in
+          let s₁ = labelIf (o .debug) (name id) (nameAt b 0) (takeId s) in
           let s₂ = decorateAccess a id s₁ in
           let s₃ = bindingDecorated (g .binding) id s₂ in
           let h₃ = q₃ .held T s₂ (q₂ .held T s₁ (q₁ .held T (takeId s) (p₀ .held T S s h))) in
@@ -134,8 +134,8 @@ declared flags ts rs b g {w = w} {T = T} {S = S} {t = t} p₀ q₁ {a = a} ea q�
           let e₄ = fun-ext ey in
           subst (Held v₇ T₆ S₇)
           ((λ j. declare (variable (k .named j) id class (i .named j)) (x .state))
-          ∙ (λ j. run flags b g s (ei j) (ea j) (e₃ j) (e₄ j) (eb j) (en j) (ec j))
-          ∙ is-ruled flags b g s d ts rs et er)
+          ∙ (λ j. run o b g s (ei j) (ea j) (e₃ j) (e₄ j) (eb j) (en j) (ec j))
+          ∙ is-ruled o b g s d ts rs et er)
           (q₇ .held T₆ (x .state) (i .held));
     }
 
@@ -157,10 +157,10 @@ module _ {n : ℕ} (r : Record) (tested : Tested n r) {b : List ℕ} (eb : b ≡
   pub record-room : {w : Writer} {T S : List ℕ} → Room (recordCost (length (r .body) + 3)) w T S → Room (globalCost (nameEnd b 0)) w T S
   record-room room = let m = price in record { rows = omega (arith, m, room .rows); words = omega (arith, m, room .words) }
 
-  pub record-kept : {flags : ℕ} {ts : List TypeEntry} {rs : List Remap} {g : Global} → g ≡ globalIn r → {w v : Writer} {T S T′ S′ : List ℕ}
-      → GlobalKept (globalCost (nameEnd b 0)) flags ts rs g w T S v T′ S′ → GlobalKept (recordCost (length (r .body) + 3)) flags ts rs (globalIn r) w T S v T′ S′
-  record-kept {flags = flags} e {v = v} {T′ = T′} {S′ = S′} k = record {
+  pub record-kept : {o : Options} {ts : List TypeEntry} {rs : List Remap} {g : Global} → g ≡ globalIn r → {w v : Writer} {T S T′ S′ : List ℕ}
+      → GlobalKept (globalCost (nameEnd b 0)) o ts rs g w T S v T′ S′ → GlobalKept (recordCost (length (r .body) + 3)) o ts rs (globalIn r) w T S v T′ S′
+  record-kept {o = o} e {v = v} {T′ = T′} {S′ = S′} k = record {
     grown = grown-within price (k .grown);
     tail = k .tail;
-    held = λ d et er s h. subst (λ (g : Global). Held v T′ S′ (declareGlobal (optionsOf flags) d g s)) e (k .held d et er s h);
+    held = λ d et er s h. subst (λ (g : Global). Held v T′ S′ (declareGlobal o d g s)) e (k .held d et er s h);
   }

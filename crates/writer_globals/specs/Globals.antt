@@ -6,7 +6,7 @@ use mathlib.Core.Option.{Option, some, none}
 use Rattle.definition.specs.Choice.{pick}
 use Rattle.definition.specs.Numbers.{DecorationOffset, DecorationBinding, DecorationDescriptorSet}
 use Rattle.definition.specs.Instructions.{decorate, memberDecorate, typeStruct, typePointer}
-use Rattle.definition.specs.Sheet.{TypeEntry, Remap, Global, optionsOf}
+use Rattle.definition.specs.Sheet.{TypeEntry, Remap, Global, Options}
 use Rattle.definition.specs.Shapes.{storageClass, pointer, bindingPointer, entry, shape}
 use Rattle.definition.specs.State.{State, Got, got, takeId, annotate, declare}
 use Rattle.definition.specs.Tests.{Seen}
@@ -78,7 +78,7 @@ pub record Initialised (f : State → GotInit) (w : Writer) (T S : List ℕ) (r 
 -- ---- the whole
 
 -- a global is declared, given the types and the remaps, whatever else was read
-pub record GlobalKept (c : Cost) (flags : ℕ) (ts : List TypeEntry) (rs : List Remap) (g : Global) (w : Writer) (T S : List ℕ) (v : Writer) (T′ S′ : List ℕ) : Type 0 where
+pub record GlobalKept (c : Cost) (o : Options) (ts : List TypeEntry) (rs : List Remap) (g : Global) (w : Writer) (T S : List ℕ) (v : Writer) (T′ S′ : List ℕ) : Type 0 where
   pub grown : Grown c w v
   pub tail : Tail w T v T′
-  pub held : (d : Seen) → d .types ≡ ts → d .remaps ≡ rs → (s : State) → Held w T S s → Held v T′ S′ (declareGlobal (optionsOf flags) d g s)
+  pub held : (d : Seen) → d .types ≡ ts → d .remaps ≡ rs → (s : State) → Held w T S s → Held v T′ S′ (declareGlobal o d g s)

@@ -1,10 +1,7 @@
 // What a global's id is decorated with, its name, and Block on the base of a Storage binding array.
-use crate::STORAGE;
 use entries::globals::Binding;
 use entries::globals::GlobalVariable;
 use kinds::AddressSpace;
-use kinds::space_access;
-use kinds::space_number;
 use lookup::LookupType;
 use spirv::instructions::DECORATION_BINDING;
 use spirv::instructions::DECORATION_BLOCK;
@@ -50,10 +47,10 @@ pub fn access_of(s: &[u8], types: &[u32], n: usize, g: GlobalVariable) -> Access
     ensures { λ r. ⌜ ((b : List ℕ) → byteOf r ≡ accessOf (typesFrom (now (s .entry)) (now (types .entry)) n) (globalOf b g)) ⌝ }
 {
     let space = g.space;
-    if space_number(space) == STORAGE {
-        return Access::Of(space_access(space));
-    }
-    type_facts::image_access(s, types, n, g.ty as usize)
+    let AddressSpace::Storage { access } = space else {
+        return type_facts::image_access(s, types, n, g.ty as usize);
+    };
+    Access::Of(access)
 }
 
 // Bit 0 of an access is load, bit 1 store.
@@ -109,9 +106,9 @@ pub fn block_base(
     requires { ⌜ Room (annotating 3) w (now tables) (now sections) ⌝ }
     ensures { λ r. ⌜ Kept (annotating 3) (blockBase (eqb (spaceNumber space) storageSpace) (indexOf base)) w (now (tables .entry)) (now (sections .entry)) r (now (tables .entry)) (now (sections .exit)) ⌝ }
 {
-    if space_number(space) != STORAGE {
+    let AddressSpace::Storage { access: _ } = space else {
         return w;
-    }
+    };
     match base {
         Base::Nothing => w,
         Base::Of(b) => {

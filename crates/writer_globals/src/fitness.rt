@@ -1,14 +1,8 @@
 // Test 13 of a global: each test by itself, and the first that fails.
-use crate::FUNCTION;
-use crate::HANDLE;
-use crate::PRIVATE;
-use crate::STORAGE;
-use crate::UNIFORM;
-use crate::WORK_GROUP;
 use entries::globals::Binding;
 use entries::globals::GlobalVariable;
 use entries::globals::Init;
-use kinds::space_number;
+use kinds::AddressSpace;
 use lookup::LookupType;
 use writer::Writer;
 ghost use mathlib.Core.Path.{_≡_};
@@ -21,6 +15,7 @@ ghost use Rattle.definition.specs.Choice.{among};
 ghost use Rattle.definition.specs.Sheet.{Global, recordAt, privateSpace, workGroupSpace, uniformSpace, storageSpace, handleSpace};
 ghost use Rattle.definition.specs.State.{State};
 ghost use Rattle.definition.specs.Unfit.{initFits};
+ghost use Rattle.kinds.specs.Numbers.{spaceNumber};
 ghost use Rattle.records.specs.Places.{typesFrom};
 ghost use Rattle.zeroable.specs.Memo.{Memo};
 ghost use Rattle.entries.specs.Globals.{globalOf, constantOf, boundNumber};
@@ -29,43 +24,57 @@ ghost use Rattle.writer.specs.Held.{Held, RoomIn};
 ghost use Rattle.writer_globals.specs.Records.{globalIn, Tested};
 ghost use Rattle.writer_globals.specs.Fitness.{Judged};
 
+// Whether a space may hold bound globals.
+fn may_be_bound(space: AddressSpace) -> bool
+    ensures { λ r. ⌜ r ≡ among (spaceNumber space) (uniformSpace ∷ storageSpace ∷ handleSpace ∷ []) ⌝ }
+{
+    match space {
+        AddressSpace::Function => false,
+        AddressSpace::Private => false,
+        AddressSpace::WorkGroup => false,
+        AddressSpace::Uniform => true,
+        AddressSpace::Storage { access: _ } => true,
+        AddressSpace::Handle => true,
+        AddressSpace::PushConstant => false,
+    }
+}
+
 // A bound global is Uniform, Storage or Handle.
-fn binding_fits(binding: Binding, space: u8) -> bool
-    ensures { λ r. ⌜ r ≡ (not (eqb (boundNumber binding) 1) || among space (uniformSpace ∷ storageSpace ∷ handleSpace ∷ [])) ⌝ }
+fn binding_fits(binding: Binding, space: AddressSpace) -> bool
+    ensures { λ r. ⌜ r ≡ (not (eqb (boundNumber binding) 1) || among (spaceNumber space) (uniformSpace ∷ storageSpace ∷ handleSpace ∷ [])) ⌝ }
 {
     match binding {
         Binding::Unbound => true,
-        Binding::Bound(_) => match space {
-            UNIFORM => true,
-            STORAGE => true,
-            HANDLE => true,
-            _ => false,
-        },
+        Binding::Bound(_) => may_be_bound(space),
     }
 }
 
 // Whether the type must be zeroable: of a Private or WorkGroup global.
-fn is_zeroed(space: u8) -> bool
-    ensures { λ r. ⌜ r ≡ among space (privateSpace ∷ workGroupSpace ∷ []) ⌝ }
+fn is_zeroed(space: AddressSpace) -> bool
+    ensures { λ r. ⌜ r ≡ among (spaceNumber space) (privateSpace ∷ workGroupSpace ∷ []) ⌝ }
 {
     match space {
-        PRIVATE => true,
-        WORK_GROUP => true,
-        _ => false,
+        AddressSpace::Function => false,
+        AddressSpace::Private => true,
+        AddressSpace::WorkGroup => true,
+        AddressSpace::Uniform => false,
+        AddressSpace::Storage { access: _ } => false,
+        AddressSpace::Handle => false,
+        AddressSpace::PushConstant => false,
     }
 }
 
 // An init is of a Private global, and of its type's id.
-fn init_fits(tables: &[u64], w: Writer, init: Init, space: u8, ty: u16) -> bool
+fn init_fits(tables: &[u64], w: Writer, init: Init, space: AddressSpace, ty: u16) -> bool
     requires { ⌜ RoomIn nothing w (now tables) ⌝ }
-    ensures { λ r. ⌜ ((S : List ℕ) (s : State) → Held w (now (tables .entry)) S s → (g : Global) → g .space ≡ space → g .type ≡ ty → r ≡ initFits s g (constantOf init)) ⌝ }
+    ensures { λ r. ⌜ ((S : List ℕ) (s : State) → Held w (now (tables .entry)) S s → (g : Global) → g .space ≡ spaceNumber space → g .type ≡ ty → r ≡ initFits s g (constantOf init)) ⌝ }
 {
     match init {
         Init::Missing => true,
         Init::Constant(c) => {
-            if space != PRIVATE {
+            let AddressSpace::Private = space else {
                 return false;
-            }
+            };
             let x = writer::value_at(tables, w, c as usize);
             let y = finding::type_id(tables, w, LookupType::Handle(ty));
             x.ty == y
@@ -89,20 +98,19 @@ fn variable_fits(
     let space = g.space;
     let binding = g.binding;
     let init = g.init;
-    let k = space_number(space);
-    if k == FUNCTION {
+    if let AddressSpace::Function = space {
         return false;
     }
     if type_facts::is_pointer(s, types, n, g.ty as usize) {
         return false;
     }
-    if !binding_fits(binding, k) {
+    if !binding_fits(binding, space) {
         return false;
     }
-    if !init_fits(tables, w, init, k, g.ty) {
+    if !init_fits(tables, w, init, space, g.ty) {
         return false;
     }
-    if is_zeroed(k) {
+    if is_zeroed(space) {
         return zeroable::is_zeroable(s, types, n, g.ty as usize, memo);
     }
     true

@@ -12,10 +12,10 @@ use decorations::name_global;
 use entries::globals::GlobalVariable;
 use entries::globals::Init;
 use kinds::AddressSpace;
-use kinds::space_number;
 use lookup::LookupType;
 use pointers::pointer_form_of;
 use pointers::write_pointer;
+use records::Options;
 use spirv::helpers::map_storage_class;
 use spirv::instructions::Initializer;
 use writer::Writer;
@@ -30,6 +30,7 @@ ghost use Rattle.definition.specs.Bytes.{nameEnd};
 ghost use Rattle.definition.specs.Sheet.{recordAt, privateSpace, workGroupSpace};
 ghost use Rattle.definition.specs.Rules.{initFor};
 ghost use Rattle.kinds.specs.Numbers.{spaceNumber};
+ghost use Rattle.records.specs.Flags.{optionsFrom};
 ghost use Rattle.records.specs.Places.{remapFrom, typesFrom};
 ghost use Rattle.entries.specs.Globals.{globalOf, constantOf};
 ghost use Rattle.writer.specs.Cost.{recordCost};
@@ -38,19 +39,6 @@ ghost use Rattle.finding.specs.Costs.{nullCost};
 ghost use Rattle.writer_globals.specs.Costs.{globalCost};
 ghost use Rattle.writer_globals.specs.Globals.{Initialised, GlobalKept};
 ghost use Rattle.writer_globals.specs.Records.{globalIn, Tested};
-
-// Spaces, as document 01 numbers them.
-const FUNCTION: u8 = 0;
-
-const PRIVATE: u8 = 1;
-
-const WORK_GROUP: u8 = 2;
-
-const UNIFORM: u8 = 3;
-
-const STORAGE: u8 = 4;
-
-const HANDLE: u8 = 5;
 
 // The id of a global's init, if it has one.
 pub struct Inited {
@@ -64,10 +52,14 @@ pub struct Inited {
 fn gets_null(space: AddressSpace, zeroing: bool) -> bool
     ensures { λ r. ⌜ r ≡ (eqb (spaceNumber space) privateSpace || (eqb (spaceNumber space) workGroupSpace && zeroing)) ⌝ }
 {
-    match space_number(space) {
-        PRIVATE => true,
-        WORK_GROUP => zeroing,
-        _ => false,
+    match space {
+        AddressSpace::Function => false,
+        AddressSpace::Private => true,
+        AddressSpace::WorkGroup => zeroing,
+        AddressSpace::Uniform => false,
+        AddressSpace::Storage { access: _ } => false,
+        AddressSpace::Handle => false,
+        AddressSpace::PushConstant => false,
     }
 }
 
@@ -122,10 +114,10 @@ fn write_global_variable(
     m: usize,
     b: &[u8],
     g: GlobalVariable,
-    flags: u8,
+    options: Options,
 ) -> Writer
     requires { ⌜ (n ≤ length (now types)) × (m ≤ length (now remaps)) × Room (globalCost (nameEnd (now b) 0)) w (now tables) (now sections) ⌝ }
-    ensures { λ r. ⌜ GlobalKept (globalCost (nameEnd (now (b .entry)) 0)) flags (typesFrom (now (s .entry)) (now (types .entry)) n) (map (remapFrom (now (s .entry))) (take m (now (remaps .entry)))) (globalOf (now (b .entry)) g) w (now (tables .entry)) (now (sections .entry)) r (now (tables .exit)) (now (sections .exit)) ⌝ }
+    ensures { λ r. ⌜ GlobalKept (globalCost (nameEnd (now (b .entry)) 0)) (optionsFrom options) (typesFrom (now (s .entry)) (now (types .entry)) n) (map (remapFrom (now (s .entry))) (take m (now (remaps .entry)))) (globalOf (now (b .entry)) g) w (now (tables .entry)) (now (sections .entry)) r (now (tables .exit)) (now (sections .exit)) ⌝ }
 {
     let ty = g.ty;
     let space = g.space;
@@ -134,11 +126,11 @@ fn write_global_variable(
     let access = access_of(s, types, n, g);
     let form = pointer_form_of(s, types, n, remaps, m, g);
     let base = type_facts::binding_base(s, types, n, g.ty as usize);
-    let null = gets_null(space, flags / 2 % 2 == 1);
+    let null = gets_null(space, options.zeroing);
     let class = map_storage_class(space);
     let t = writer::take_id(w);
     let id = t.id;
-    let a = name_global(sections, t.writer, flags % 2 == 1, id, b);
+    let a = name_global(sections, t.writer, options.debug, id, b);
     let c = decorate_access(sections, a, id, access);
     let e = decorate_binding(sections, c, id, binding);
     let p = write_pointer(tables, sections, e, form, g);
@@ -159,12 +151,12 @@ pub fn write_global(
     remaps: &[u32],
     m: usize,
     rest: &[u8],
-    flags: u8,
+    options: Options,
 ) -> Writer
     requires { ⌜ (n ≤ length (now types)) × (m ≤ length (now remaps)) × Tested n (recordAt (now rest)) × Room (recordCost (length (recordAt (now rest) .body) + 3)) w (now tables) (now sections) ⌝ }
-    ensures { λ r. ⌜ GlobalKept (recordCost (length (recordAt (now (rest .entry)) .body) + 3)) flags (typesFrom (now (s .entry)) (now (types .entry)) n) (map (remapFrom (now (s .entry))) (take m (now (remaps .entry)))) (globalIn (recordAt (now (rest .entry)))) w (now (tables .entry)) (now (sections .entry)) r (now (tables .exit)) (now (sections .exit)) ⌝ }
+    ensures { λ r. ⌜ GlobalKept (recordCost (length (recordAt (now (rest .entry)) .body) + 3)) (optionsFrom options) (typesFrom (now (s .entry)) (now (types .entry)) n) (map (remapFrom (now (s .entry))) (take m (now (remaps .entry)))) (globalIn (recordAt (now (rest .entry)))) w (now (tables .entry)) (now (sections .entry)) r (now (tables .exit)) (now (sections .exit)) ⌝ }
 {
     let b = records::body_of(rest);
     let g = entries::globals::global_of(b);
-    write_global_variable(tables, sections, w, s, types, n, remaps, m, b, g, flags)
+    write_global_variable(tables, sections, w, s, types, n, remaps, m, b, g, options)
 }

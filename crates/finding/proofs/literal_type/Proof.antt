@@ -1,29 +1,41 @@
--- The form says which scalar a literal is of.
-use Rattle.finding.proofs.Literals.{is-f64, is-f32, is-u32, is-i32, is-bool}
-use Rattle.literals.specs.Forms.{literalOf}
-use Rattle.definition.specs.Shapes.{Kind, scalar, shape}
-use mathlib.Core.Path.{sym, ap, _∙_}
+-- An arm for each case of the enum: with it put in, the definition computes to the arm's scalar.
 use borrow.Author.Needs.{needs}
+use Rattle.definition.specs.Shapes.{kindOf}
 use Rattle.finding.proofs.literal_type.Statement.{statement}
 use Rattle.finding.proofs.literal_type.Tie as tie
 
 returns : tie.Need-returns
-returns c = c .scalar-type .ensures ∙ ap (λ (k : Kind). shape (scalar k)) (is-f64 (literalOf (c .before .before .before .args .l)) (sym (c .before .before .form .ensures) ∙ c .before .match .keys1))
+unfolding kindOf
+returns c = rw (c .before .enum-told .given .1) (c .scalar-type .ensures)
 
 returns-2 : tie.Need-returns-2
-returns-2 c = c .scalar-type2 .ensures ∙ ap (λ (k : Kind). shape (scalar k)) (is-f32 (literalOf (c .before .before .before .args .l)) (sym (c .before .before .form .ensures) ∙ c .before .match .keys2))
+unfolding kindOf
+returns-2 c = rw (c .before .enum-told2 .given .1) (c .scalar-type2 .ensures)
 
 returns-3 : tie.Need-returns-3
-returns-3 c = c .scalar-type3 .ensures ∙ ap (λ (k : Kind). shape (scalar k)) (is-u32 (literalOf (c .before .before .before .args .l)) (sym (c .before .before .form .ensures) ∙ c .before .match .keys3))
+unfolding kindOf
+returns-3 c = rw (c .before .enum-told3 .given .1) (c .scalar-type3 .ensures)
 
 returns-4 : tie.Need-returns-4
-returns-4 c = c .scalar-type4 .ensures ∙ ap (λ (k : Kind). shape (scalar k)) (is-i32 (literalOf (c .before .before .before .args .l)) (sym (c .before .before .form .ensures) ∙ c .before .match .keys4))
+unfolding kindOf
+returns-4 c = rw (c .before .enum-told4 .given .1) (c .scalar-type4 .ensures)
 
 returns-5 : tie.Need-returns-5
-returns-5 c = let r = c .before .match .rest in let e = c .before .before .form .ensures in c .scalar-type5 .ensures ∙ ap (λ (k : Kind). shape (scalar k)) (is-bool (literalOf (c .before .before .before .args .l)) (λ z. r .0 .0 .0 .1 (e ∙ z)) (λ z. r .0 .0 .1 (e ∙ z)) (λ z. r .0 .1 (e ∙ z)) (λ z. r .1 (e ∙ z)))
+unfolding kindOf
+returns-5 c = rw (c .before .enum-told5 .given .1) (c .scalar-type5 .ensures)
+
+returns-6 : tie.Need-returns-6
+unfolding kindOf
+returns-6 c = rw (c .before .enum-told6 .given .1) (c .scalar-type6 .ensures)
+
+returns-7 : tie.Need-returns-7
+unfolding kindOf
+returns-7 c = rw (c .before .enum-told7 .given .1) (c .scalar-type7 .ensures)
 
 pub literal-type-spec : {M : Type 1} → statement M
 literal-type-spec =
     tie.close
-    (tie.spec (λ c κs. search needs) (λ c κs. search needs) (λ c κs. search needs) (λ c κs. search needs) (λ c κs. search needs)
-    (λ c κs. search needs) returns returns-2 returns-3 returns-4 returns-5)
+    (tie.spec (λ c. search needs) (λ c κs. search needs) (λ c. search needs) (λ c κs. search needs) (λ c. search needs)
+    (λ c κs. search needs) (λ c. search needs) (λ c κs. search needs) (λ c. search needs) (λ c κs. search needs)
+    (λ c. search needs) (λ c κs. search needs) (λ c. search needs) (λ c κs. search needs) returns returns-2 returns-3
+    returns-4 returns-5 returns-6 returns-7)

@@ -23,10 +23,14 @@ returns-4 c = simp (← c .before .before .rank-of .ensures, c .before .match .k
 
 returns-5 : tie.Need-returns-5
 unfolding entryOf globalFields
-returns-5 c = simp (← c .before .before .rank-of .ensures, ne-eqb _ _ (c .before .match .rest .0 .0 .0 .1), ne-eqb _ _ (c .before .match .rest .0 .0 .1), ne-eqb _ _ (c .before .match .rest .0 .1), ne-eqb _ _ (c .before .match .rest .1)) cc
+returns-5 c = simp (← c .before .before .rank-of .ensures, c .before .match .keys5) cc
+
+returns-6 : tie.Need-returns-6
+unfolding entryOf globalFields
+returns-6 c = simp (← c .before .before .rank-of .ensures, ne-eqb _ _ (c .before .match .rest .0 .0 .0 .0 .1), ne-eqb _ _ (c .before .match .rest .0 .0 .0 .1), ne-eqb _ _ (c .before .match .rest .0 .0 .1), ne-eqb _ _ (c .before .match .rest .0 .1)) cc
 
 pub fields-end-spec : {M : Type 1} → statement M
 fields-end-spec =
     tie.close
     (tie.spec (λ c κs. search needs) (λ c. search needs) (λ c κs. search needs) (λ c κs. search needs) (λ c κs. search needs)
-    (λ c κs. search needs) (λ c. search needs) returns returns-2 returns-3 returns-4 returns-5)
+    (λ c κs. search needs) (λ c. search needs) (λ c κs. search needs) (λ c. search needs) returns returns-2 returns-3 returns-4 returns-5 returns-6)

@@ -28,10 +28,14 @@ returns-5 c = simp (← c .before .rank-of .ensures, c .match .keys4, and-true) 
 
 returns-6 : tie.Need-returns-6
 unfolding entryOf globalFields
-returns-6 c = simp (← c .before .before .rank-of .ensures, ne-eqb _ _ (c .before .match .rest .0 .0 .0 .1), ne-eqb _ _ (c .before .match .rest .0 .0 .1), ne-eqb _ _ (c .before .match .rest .0 .1), ne-eqb _ _ (c .before .match .rest .1), and-true) cc
+returns-6 c = simp (← c .before .before .rank-of .ensures, c .before .match .keys5, and-true) cc
+
+returns-7 : tie.Need-returns-7
+unfolding entryOf globalFields
+returns-7 c = simp (← c .before .before .rank-of .ensures, ne-eqb _ _ (c .before .match .rest .0 .0 .0 .0 .1), ne-eqb _ _ (c .before .match .rest .0 .0 .0 .1), ne-eqb _ _ (c .before .match .rest .0 .0 .1), ne-eqb _ _ (c .before .match .rest .0 .1), and-true) cc
 
 pub names-fit-spec : {M : Type 1} → statement M
 names-fit-spec =
     tie.close
     (tie.spec (λ c κs. search needs) (λ c κs. search needs) (λ c κs. search needs) (λ c κs. search needs) (λ c κs. search needs)
-    returns returns-2 returns-3 returns-4 returns-5 returns-6)
+    (λ c κs. search needs) returns returns-2 returns-3 returns-4 returns-5 returns-6 returns-7)

@@ -2,12 +2,12 @@
 use Rattle.sheet_writer.proofs.Turns.{type-tested, constant-tested, global-tested, type-written, constant-written, global-written, other-written}
 use Rattle.sheet_writer.specs.Turning.{entryCost}
 use Rattle.writer.specs.Held.{Room}
+use Rattle.records.specs.Flags.{optionsFrom}
 use Rattle.definition.specs.Sheet.{recordAt}
 use mathlib.Core.Path.{subst}
 use lib.ListN.{length}
 use Prim.Native.Nat.{ℕ, _+_}
 use native.Mathlib.Omega.{arith}
-use mathlib.Core.Path.{refl}
 use Rattle.definition.specs.Sheet.{tagRank}
 use denote.Ref.{now}
 use mathlib.Core.Path.{sym, ap, _∙_}
@@ -29,19 +29,19 @@ write-global-requires c κs = let a = c .before .before .before .before .before 
 
 returns : tie.Need-returns
 returns c = let a = c .before .before .before .before .before .before .before .before .before .before .before .before .before .before .before .before .args in let e = ap tagRank (sym (c .before .before .before .before .before .before .before .before .before .tag-of .ensures)) ∙ sym (c .before .before .before .before .before .before .before .before .rank-of .ensures) ∙ c .before .before .before .before .before .before .before .match .keys1 in let t = c .before .before .before .before .write-type-declaration-arena in
-    type-written (now (a .s)) (now (a .remaps)) (now (a .types)) (a .k) (now (a .rest)) (c .before .before .before .before .before .before .before .before .before .before .before .before .before .before .before .before .pre .0) (a .flags) (a .w) (a .tables .now) (a .sections .now) (t .result) (t .last .0) (t .last .1 .0) e _ refl (t .ensures)
+    type-written (now (a .s)) (now (a .remaps)) (now (a .types)) (a .k) (now (a .rest)) (c .before .before .before .before .before .before .before .before .before .before .before .before .before .before .before .before .pre .0) (optionsFrom (a .options)) (a .w) (a .tables .now) (a .sections .now) (t .result) (t .last .0) (t .last .1 .0) e (t .ensures)
 
 returns-2 : tie.Need-returns-2
 returns-2 c = let a = c .before .before .before .before .before .before .before .before .before .before .before .before .before .before .before .before .args in let e = ap tagRank (sym (c .before .before .before .before .before .before .before .before .before .tag-of .ensures)) ∙ sym (c .before .before .before .before .before .before .before .before .rank-of .ensures) ∙ c .before .before .before .before .before .before .before .match .keys2 in let t = c .before .before .before .before .write-constant in
-    constant-written (now (a .s)) (now (a .remaps)) (now (a .types)) (a .k) (now (a .rest)) (c .before .before .before .before .before .before .before .before .before .before .before .before .before .before .before .before .pre .0) (a .flags) (a .w) (a .tables .now) (a .sections .now) (t .result) (t .last .0) (t .last .1 .0) e (t .ensures)
+    constant-written (now (a .s)) (now (a .remaps)) (now (a .types)) (a .k) (now (a .rest)) (c .before .before .before .before .before .before .before .before .before .before .before .before .before .before .before .before .pre .0) (optionsFrom (a .options)) (a .w) (a .tables .now) (a .sections .now) (t .result) (t .last .0) (t .last .1 .0) e (t .ensures)
 
 returns-3 : tie.Need-returns-3
 returns-3 c = let a = c .before .before .before .before .before .before .before .before .before .before .before .before .before .before .before .before .args in let e = ap tagRank (sym (c .before .before .before .before .before .before .before .before .before .tag-of .ensures)) ∙ sym (c .before .before .before .before .before .before .before .before .rank-of .ensures) ∙ c .before .before .before .before .before .before .before .match .keys3 in let t = c .before .before .before .before .write-global in
-    global-written (now (a .s)) (now (a .remaps)) (now (a .types)) (a .k) (now (a .rest)) (c .before .before .before .before .before .before .before .before .before .before .before .before .before .before .before .before .pre .0) (a .flags) (a .w) (a .tables .now) (a .sections .now) (t .result) (t .last .0) (t .last .1 .0) e (t .ensures)
+    global-written (now (a .s)) (now (a .remaps)) (now (a .types)) (a .k) (now (a .rest)) (c .before .before .before .before .before .before .before .before .before .before .before .before .before .before .before .before .pre .0) (optionsFrom (a .options)) (a .w) (a .tables .now) (a .sections .now) (t .result) (t .last .0) (t .last .1 .0) e (t .ensures)
 
 returns-4 : tie.Need-returns-4
 returns-4 c = let a = c .before .before .before .before .before .before .before .before .before .args in let q = c .before .rank-of .ensures ∙ ap tagRank (c .before .before .tag-of .ensures) in
-    other-written (now (a .s)) (now (a .remaps)) (now (a .types)) (a .k) (now (a .rest)) (c .before .before .before .before .before .before .before .before .before .pre .0) (a .flags) (a .w) (a .tables .now) (a .sections .now) (c .before .rank-of .result) q (c .match .rest .0 .0 .1) (c .match .rest .0 .1) (c .match .rest .1)
+    other-written (now (a .s)) (now (a .remaps)) (now (a .types)) (a .k) (now (a .rest)) (c .before .before .before .before .before .before .before .before .before .pre .0) (optionsFrom (a .options)) (a .w) (a .tables .now) (a .sections .now) (c .before .rank-of .result) q (c .match .rest .0 .0 .1) (c .match .rest .0 .1) (c .match .rest .1)
 
 pub write-entry-spec : {M : Type 1} → statement M
 write-entry-spec =

@@ -2,7 +2,7 @@
 -- what is left of the sheet. Each way out and the turn is one law of Loop, to whose form what the callees ensure is brought.
 use Rattle.sheet_writer.proofs.Loop.{Holds, begins, fits, four, ready, refuses, passed, turns}
 use Rattle.sheet_writer.specs.Turning.{Turned}
-use Rattle.definition.specs.Sheet.{recordAt}
+use Rattle.definition.specs.Sheet.{recordAt, Options}
 use Rattle.sheet.specs.Hash.{HashFor}
 use Rattle.records.proofs.Loop.{judge-stop}
 use Rattle.records.specs.Places.{placesOf}
@@ -17,11 +17,11 @@ use Rattle.sheet_writer.proofs.write_sheet.Statement.{statement}
 use Rattle.sheet_writer.proofs.write_sheet.Tie as tie
 
 abbrev Inv-loop : tie.InvT-loop
-Inv-loop tables₀ sections₀ memo₀ remaps₀ types₀ constants₀ globals₀ s nrecords nbytes h flags w₀ at₀ k₀ available₀ tables sections memo remaps types constants globals w at k available =
+Inv-loop tables₀ sections₀ memo₀ remaps₀ types₀ constants₀ globals₀ s nrecords nbytes h options w₀ at₀ k₀ available₀ tables sections memo remaps types constants globals w at k available =
     Holds s tables₀ sections₀ memo₀ (placesOf remaps₀ types₀ constants₀ globals₀) nrecords nbytes tables sections memo (placesOf remaps types constants globals) at k available w
 
 abbrev μ-loop : tie.MeasureT-loop
-μ-loop tables₀ sections₀ memo₀ remaps₀ types₀ constants₀ globals₀ s nrecords nbytes h flags w₀ at₀ k₀ available₀ tables sections memo remaps types constants globals w at k available = length s - at
+μ-loop tables₀ sections₀ memo₀ remaps₀ types₀ constants₀ globals₀ s nrecords nbytes h options w₀ at₀ k₀ available₀ tables sections memo remaps types constants globals w at k available = length s - at
 
 returns : tie.Need-returns Inv-loop μ-loop
 returns c = judge-stop _ _ _ (c .before .header-test .ensures) (c .if1 .taken)
@@ -46,14 +46,14 @@ returns-3 c = let a = c .before .before .before .before .before .before .before 
     refuses (now (a .s)) (a .tables .now) (a .sections .now) (a .memo .now) (placesOf (a .remaps .now) (a .types .now) (a .constants .now) (a .globals .now)) (a .nrecords) (a .nbytes) (l .tables) (l .sections) (l .memo) (placesOf (l .remaps) (l .types) (l .constants) (l .globals)) (l .at) (l .k) (l .available) (l .w) (l .inv) (c .before .before .before .before .before .before .before .before .before .before .before .before .before .before .before .before .before .before .before .before .before .before .before .before .before .before .before .before .before .before .before .before .before .before .pre .0) (sym (c .before .before .before .before .before .before .before .before .before .before .before .before .before .before .before .before .before .before .before .before .before .before .before .before .before .header-test .ensures) ∙ c .before .before .before .before .before .before .before .before .before .before .before .before .before .before .before .before .before .before .before .before .before .before .before .before .if1 .left)
     (c .before .before .before .before .before .before .before .before .before .before .before .before .before .before .before .before .before .loop-test .taken) (now (c .before .before .before .before .before .before .before .before .before .before .before .before .before .before .before .before .rest-at .result)) (c .before .before .before .before .before .before .before .before .before .before .before .before .before .before .before .before .rest-at .ensures) (sym (c .before .before .before .before .before .before .before .before .before .before .before .before .before .before .before .no-record .ensures) ∙ c .before .before .before .before .before .before .before .before .before .before .before .before .before .before .if2 .left)
     (t .result) (t .last .0) (t .last .1 .0) (t .last .1 .1 .0)
-    (subst (λ (f : ℕ). Turned (now (a .s)) (l .remaps) (l .types) (l .k) (l .available) (now (c .before .before .before .before .before .before .before .before .before .before .before .before .before .before .before .before .rest-at .result)) f (l .w) (l .tables) (l .sections) (t .result) (t .last .0) (t .last .1 .0) (t .last .1 .1 .0)) (c .before .before .before .before .before .before .before .before .before .before .before .before .before .before .before .before .before .before .before .before .before .before .before .u8-at .ensures) (t .ensures)) (c .if3 .taken)
+    (subst (λ (o : Options). Turned (now (a .s)) (l .remaps) (l .types) (l .k) (l .available) (now (c .before .before .before .before .before .before .before .before .before .before .before .before .before .before .before .before .rest-at .result)) o (l .w) (l .tables) (l .sections) (t .result) (t .last .0) (t .last .1 .0) (t .last .1 .1 .0)) (c .before .before .before .before .before .before .before .before .before .before .before .before .before .before .before .before .before .before .before .before .before .before .before .options-of .ensures) (t .ensures)) (c .if3 .taken)
 
 hold-requires : tie.Need-hold-requires Inv-loop μ-loop
 hold-requires c κs = let a = c .before .before .before .before .before .before .before .before .before .before .before .before .before .before .before .before .before .before .before .before .before .before .before .before .before .before .before .before .before .before .before .before .before .before .before .before .before .before .before .before .args in let l = c .before .before .before .before .before .before .before .before .before .before .before .before .before .before .before .before .before .before .before .before .before .before .before .before .loop in let t = c .before .before .before .before .before .before .before .before .before .before .before .before .before .record-turn in (
   passed (now (a .s)) (a .tables .now) (a .sections .now) (a .memo .now) (placesOf (a .remaps .now) (a .types .now) (a .constants .now) (a .globals .now)) (a .nrecords) (a .nbytes) (l .tables) (l .sections) (l .memo) (placesOf (l .remaps) (l .types) (l .constants) (l .globals)) (l .at) (l .k) (l .available) (l .w) (l .inv) (c .before .before .before .before .before .before .before .before .before .before .before .before .before .before .before .before .before .before .before .before .before .before .before .before .before .before .before .before .before .before .before .before .before .before .before .before .before .before .before .before .pre .0) (sym (c .before .before .before .before .before .before .before .before .before .before .before .before .before .before .before .before .before .before .before .before .before .before .before .before .before .before .before .before .before .before .before .header-test .ensures) ∙ c .before .before .before .before .before .before .before .before .before .before .before .before .before .before .before .before .before .before .before .before .before .before .before .before .before .before .before .before .before .before .if1 .left)
       (c .before .before .before .before .before .before .before .before .before .before .before .before .before .before .before .before .before .before .before .before .before .before .before .loop-test .taken) (now (c .before .before .before .before .before .before .before .before .before .before .before .before .before .before .before .before .before .before .before .before .before .before .rest-at .result)) (c .before .before .before .before .before .before .before .before .before .before .before .before .before .before .before .before .before .before .before .before .before .before .rest-at .ensures) (sym (c .before .before .before .before .before .before .before .before .before .before .before .before .before .before .before .before .before .before .before .before .before .no-record .ensures) ∙ c .before .before .before .before .before .before .before .before .before .before .before .before .before .before .before .before .before .before .before .before .if2 .left)
       (t .result) (t .last .0) (t .last .1 .0) (t .last .1 .1 .0)
-      (subst (λ (f : ℕ). Turned (now (a .s)) (l .remaps) (l .types) (l .k) (l .available) (now (c .before .before .before .before .before .before .before .before .before .before .before .before .before .before .before .before .before .before .before .before .before .before .rest-at .result)) f (l .w) (l .tables) (l .sections) (t .result) (t .last .0) (t .last .1 .0) (t .last .1 .1 .0)) (c .before .before .before .before .before .before .before .before .before .before .before .before .before .before .before .before .before .before .before .before .before .before .before .before .before .before .before .before .before .u8-at .ensures) (t .ensures)) (c .before .before .before .before .before .before .if3 .left),
+      (subst (λ (o : Options). Turned (now (a .s)) (l .remaps) (l .types) (l .k) (l .available) (now (c .before .before .before .before .before .before .before .before .before .before .before .before .before .before .before .before .before .before .before .before .before .before .rest-at .result)) o (l .w) (l .tables) (l .sections) (t .result) (t .last .0) (t .last .1 .0) (t .last .1 .1 .0)) (c .before .before .before .before .before .before .before .before .before .before .before .before .before .before .before .before .before .before .before .before .before .before .before .before .before .before .before .before .before .options-of .ensures) (t .ensures)) (c .before .before .before .before .before .before .if3 .left),
   subst (λ (r : List ℕ). HashFor (recordAt r) (c .before .before .before .before .before .before .before .before .before .before .before .before .before .before .before .before .before .before .before .hash-at .result)) (c .before .before .before .before .before .before .before .before .before .before .before .before .before .before .before .before .before .before .before .before .before .before .rest-at .ensures) (c .before .before .before .before .before .before .before .before .before .before .before .before .before .before .before .before .before .before .before .hash-at .ensures),
 )
 
@@ -68,7 +68,7 @@ loop-again c = let a = c .before .before .before .before .before .before .before
     turns (now (a .s)) (a .tables .now) (a .sections .now) (a .memo .now) (placesOf (a .remaps .now) (a .types .now) (a .constants .now) (a .globals .now)) (a .nrecords) (a .nbytes) (l .tables) (l .sections) (l .memo) (placesOf (l .remaps) (l .types) (l .constants) (l .globals)) (l .at) (l .k) (l .available) (l .w) (l .inv) (c .before .before .before .before .before .before .before .before .before .before .before .before .before .before .before .before .before .before .before .before .before .before .before .before .before .before .before .before .before .before .before .before .before .before .before .before .before .before .before .before .before .before .before .before .before .before .before .before .before .before .pre .0) (sym (c .before .before .before .before .before .before .before .before .before .before .before .before .before .before .before .before .before .before .before .before .before .before .before .before .before .before .before .before .before .before .before .before .before .before .before .before .before .before .before .before .before .header-test .ensures) ∙ c .before .before .before .before .before .before .before .before .before .before .before .before .before .before .before .before .before .before .before .before .before .before .before .before .before .before .before .before .before .before .before .before .before .before .before .before .before .before .before .before .if1 .left)
     (c .before .before .before .before .before .before .before .before .before .before .before .before .before .before .before .before .before .before .before .before .before .before .before .before .before .before .before .before .before .before .before .before .before .loop-test .taken) (now (c .before .before .before .before .before .before .before .before .before .before .before .before .before .before .before .before .before .before .before .before .before .before .before .before .before .before .before .before .before .before .before .before .rest-at .result)) (c .before .before .before .before .before .before .before .before .before .before .before .before .before .before .before .before .before .before .before .before .before .before .before .before .before .before .before .before .before .before .before .before .rest-at .ensures) (sym (c .before .before .before .before .before .before .before .before .before .before .before .before .before .before .before .before .before .before .before .before .before .before .before .before .before .before .before .before .before .before .before .no-record .ensures) ∙ c .before .before .before .before .before .before .before .before .before .before .before .before .before .before .before .before .before .before .before .before .before .before .before .before .before .before .before .before .before .before .if2 .left)
     (t .result) (t .last .0) (t .last .1 .0) (t .last .1 .1 .0)
-    (subst (λ (g : ℕ). Turned (now (a .s)) (l .remaps) (l .types) (l .k) (l .available) (now (c .before .before .before .before .before .before .before .before .before .before .before .before .before .before .before .before .before .before .before .before .before .before .before .before .before .before .before .before .before .before .before .before .rest-at .result)) g (l .w) (l .tables) (l .sections) (t .result) (t .last .0) (t .last .1 .0) (t .last .1 .1 .0)) (c .before .before .before .before .before .before .before .before .before .before .before .before .before .before .before .before .before .before .before .before .before .before .before .before .before .before .before .before .before .before .before .before .before .before .before .before .before .before .before .u8-at .ensures) (t .ensures)) (c .before .before .before .before .before .before .before .before .before .before .before .before .before .before .before .before .if3 .left)
+    (subst (λ (o : Options). Turned (now (a .s)) (l .remaps) (l .types) (l .k) (l .available) (now (c .before .before .before .before .before .before .before .before .before .before .before .before .before .before .before .before .before .before .before .before .before .before .before .before .before .before .before .before .before .before .before .before .rest-at .result)) o (l .w) (l .tables) (l .sections) (t .result) (t .last .0) (t .last .1 .0) (t .last .1 .1 .0)) (c .before .before .before .before .before .before .before .before .before .before .before .before .before .before .before .before .before .before .before .before .before .before .before .before .before .before .before .before .before .before .before .before .before .before .before .before .before .before .before .options-of .ensures) (t .ensures)) (c .before .before .before .before .before .before .before .before .before .before .before .before .before .before .before .before .if3 .left)
     (placesOf (f .last .1 .0) (f .last .1 .1 .0) (f .last .1 .1 .1 .0) (f .last .1 .1 .1 .1 .0)) (f .result) (c .before .before .before .before .before .before .before .before .before .before .before .before .before .before .behind .result) (c .next-place .result) (f .ensures) (c .before .before .before .before .before .before .before .before .before .before .before .before .before .before .behind .ensures) (c .next-place .ensures)
     (t .kept .0) (t .kept .1 .0) (t .kept .1 .1 .0) (f .kept .1 .0) (f .kept .1 .1 .0) (f .kept .1 .1 .1 .0) (f .kept .1 .1 .1 .1 .0)
 

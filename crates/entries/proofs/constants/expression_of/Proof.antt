@@ -23,11 +23,14 @@ unfolding constantFields
 returns-4 c = λ h. simp (c .before .before .match .keys4, c .before .u16-at3 .ensures, c .u16-at4 .ensures)
 
 returns-5 : tie.Need-returns-5
+returns-5 c = simp (c .before .match .keys5) (c .splat .ensures)
+
+returns-6 : tie.Need-returns-6
 unfolding constantFields
-returns-5 c = λ h. simp (ne-eqb _ _ (c .before .before .match .rest .0 .0 .0 .1), ne-eqb _ _ (c .before .before .match .rest .0 .0 .1), ne-eqb _ _ (c .before .before .match .rest .0 .1), ne-eqb _ _ (c .before .before .match .rest .1), c .before .u8-at .ensures, c .u16-at5 .ensures)
+returns-6 c = simp (ne-eqb _ _ (c .before .match .rest .0 .0 .0 .0 .1), ne-eqb _ _ (c .before .match .rest .0 .0 .0 .1), ne-eqb _ _ (c .before .match .rest .0 .0 .1), ne-eqb _ _ (c .before .match .rest .0 .1)) (c .splat2 .ensures)
 
 pub expression-of-spec : {M : Type 1} → statement M
 expression-of-spec =
     tie.close
     (tie.spec (λ c κs. search needs) (λ c κs. search needs) (λ c κs. search needs) (λ c κs. search needs) (λ c κs. search needs)
-    (λ c κs. search needs) (λ c κs. search needs) returns returns-2 returns-3 returns-4 returns-5)
+    (λ c κs. search needs) (λ c κs. search needs) returns returns-2 returns-3 returns-4 returns-5 returns-6)

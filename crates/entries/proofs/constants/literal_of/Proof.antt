@@ -26,11 +26,15 @@ returns-4 c = λ h. simp (← c .before .before .before .u8-at .ensures, c .befo
 
 returns-5 : tie.Need-returns-5
 unfolding literalFields
-returns-5 c = λ h. let g = simp (← c .before .before .u8-at .ensures, ne-eqb _ _ (c .before .match .rest .0 .0 .0 .1), ne-eqb _ _ (c .before .match .rest .0 .0 .1), ne-eqb _ _ (c .before .match .rest .0 .1), ne-eqb _ _ (c .before .match .rest .1), ← c .u8-at2 .ensures) at h in simp (← c .before .before .u8-at .ensures, ne-eqb _ _ (c .before .match .rest .0 .0 .0 .1), ne-eqb _ _ (c .before .match .rest .0 .0 .1), ne-eqb _ _ (c .before .match .rest .0 .1), ne-eqb _ _ (c .before .match .rest .1), ← c .u8-at2 .ensures) (ap boolean (flag-byte (c .u8-at2 .result) g))
+returns-5 c = λ h. let g = simp (← c .before .before .u8-at .ensures, c .before .match .keys5, ← c .u8-at2 .ensures) at h in simp (← c .before .before .u8-at .ensures, c .before .match .keys5, ← c .u8-at2 .ensures) (ap boolean (flag-byte (c .u8-at2 .result) g))
+
+returns-6 : tie.Need-returns-6
+unfolding literalFields
+returns-6 c = λ h. let g = simp (← c .before .before .u8-at .ensures, ne-eqb _ _ (c .before .match .rest .0 .0 .0 .0 .1), ne-eqb _ _ (c .before .match .rest .0 .0 .0 .1), ne-eqb _ _ (c .before .match .rest .0 .0 .1), ne-eqb _ _ (c .before .match .rest .0 .1), ← c .u8-at3 .ensures) at h in simp (← c .before .before .u8-at .ensures, ne-eqb _ _ (c .before .match .rest .0 .0 .0 .0 .1), ne-eqb _ _ (c .before .match .rest .0 .0 .0 .1), ne-eqb _ _ (c .before .match .rest .0 .0 .1), ne-eqb _ _ (c .before .match .rest .0 .1), ← c .u8-at3 .ensures) (ap boolean (flag-byte (c .u8-at3 .result) g))
 
 pub literal-of-spec : {M : Type 1} → statement M
 literal-of-spec =
     tie.close
     (tie.spec (λ c κs. search needs) (λ c κs. search needs) (λ c κs. search needs) (λ c κs. search needs) (λ c κs. search needs)
-    (λ c κs. search needs) (λ c κs. search needs) (λ c κs. search needs) (λ c κs. search needs) (λ c κs. search needs) returns
-    returns-2 returns-3 returns-4 returns-5)
+    (λ c κs. search needs) (λ c κs. search needs) (λ c κs. search needs) (λ c κs. search needs) (λ c κs. search needs) (λ c κs. search needs) returns
+    returns-2 returns-3 returns-4 returns-5 returns-6)

@@ -5,9 +5,9 @@ use Rattle.definition.specs.Sheet.{constantFields}
 use Rattle.sheet_fields.proofs.constants.end_of.Statement.{statement}
 use Rattle.sheet_fields.proofs.constants.end_of.Tie as tie
 
-returns-5 : tie.Need-returns-5
+returns-6 : tie.Need-returns-6
 unfolding constantFields
-returns-5 c = simp (ne-eqb _ _ (c .match .rest .0 .0 .0 .1), ne-eqb _ _ (c .match .rest .0 .0 .1), ne-eqb _ _ (c .match .rest .0 .1), ne-eqb _ _ (c .match .rest .1)) cc
+returns-6 c = simp (ne-eqb _ _ (c .match .rest .0 .0 .0 .0 .1), ne-eqb _ _ (c .match .rest .0 .0 .0 .1), ne-eqb _ _ (c .match .rest .0 .0 .1), ne-eqb _ _ (c .match .rest .0 .1)) cc
 
 pub end-of-spec : {M : Type 1} → statement M
 unfolding constantFields
@@ -15,4 +15,4 @@ end-of-spec =
     tie.close
     (tie.spec (λ c κs. search needs) (λ c κs. search needs) (λ c. search needs) (λ c. search needs) (λ c. search needs)
     (λ c. simp (c .before .match .keys1) cc) (λ c. simp (c .match .keys2) cc) (λ c. simp (c .match .keys3) cc)
-    (λ c. simp (c .before .match .keys4) cc) returns-5)
+    (λ c. simp (c .before .match .keys4) cc) (λ c. simp (c .match .keys5) cc) returns-6)

@@ -6,9 +6,9 @@ use Rattle.definition.proofs.Passing.{members-count}
 use Rattle.sheet_fields.proofs.types.values_fit.Statement.{statement}
 use Rattle.sheet_fields.proofs.types.values_fit.Tie as tie
 
-returns-13 : tie.Need-returns-13
+returns-14 : tie.Need-returns-14
 unfolding typeFields
-returns-13 c = simp (ne-eqb _ _ (c .match .rest .0 .0 .0 .0 .0 .0 .0 .0 .0 .0 .0 .1), ne-eqb _ _ (c .match .rest .0 .0 .0 .0 .0 .0 .0 .0 .0 .0 .1), ne-eqb _ _ (c .match .rest .0 .0 .0 .0 .0 .0 .0 .0 .0 .1), ne-eqb _ _ (c .match .rest .0 .0 .0 .0 .0 .0 .0 .0 .1), ne-eqb _ _ (c .match .rest .0 .0 .0 .0 .0 .0 .0 .1), ne-eqb _ _ (c .match .rest .0 .0 .0 .0 .0 .0 .1), ne-eqb _ _ (c .match .rest .0 .0 .0 .0 .0 .1), ne-eqb _ _ (c .match .rest .0 .0 .0 .0 .1), ne-eqb _ _ (c .match .rest .0 .0 .0 .1), ne-eqb _ _ (c .match .rest .0 .0 .1), ne-eqb _ _ (c .match .rest .0 .1), ne-eqb _ _ (c .match .rest .1), members-count) cc
+returns-14 c = simp (ne-eqb _ _ (c .match .rest .0 .0 .0 .0 .0 .0 .0 .0 .0 .0 .0 .0 .1), ne-eqb _ _ (c .match .rest .0 .0 .0 .0 .0 .0 .0 .0 .0 .0 .0 .1), ne-eqb _ _ (c .match .rest .0 .0 .0 .0 .0 .0 .0 .0 .0 .0 .1), ne-eqb _ _ (c .match .rest .0 .0 .0 .0 .0 .0 .0 .0 .0 .1), ne-eqb _ _ (c .match .rest .0 .0 .0 .0 .0 .0 .0 .0 .1), ne-eqb _ _ (c .match .rest .0 .0 .0 .0 .0 .0 .0 .1), ne-eqb _ _ (c .match .rest .0 .0 .0 .0 .0 .0 .1), ne-eqb _ _ (c .match .rest .0 .0 .0 .0 .0 .1), ne-eqb _ _ (c .match .rest .0 .0 .0 .0 .1), ne-eqb _ _ (c .match .rest .0 .0 .0 .1), ne-eqb _ _ (c .match .rest .0 .0 .1), ne-eqb _ _ (c .match .rest .0 .1), members-count) cc
 
 pub values-fit-spec : {M : Type 1} → statement M
 unfolding typeFields
@@ -25,4 +25,4 @@ values-fit-spec =
     (λ c. simp (c .before .match .keys6, members-count) cc) (λ c. simp (c .match .keys7, members-count) cc)
     (λ c. simp (c .before .match .keys8, members-count) cc) (λ c. simp (c .before .match .keys9, members-count) cc)
     (λ c. simp (c .before .match .keys10, members-count) cc) (λ c. simp (c .match .keys11, members-count) cc)
-    (λ c. simp (c .match .keys12, members-count) cc) returns-13)
+    (λ c. simp (c .match .keys12, members-count) cc) (λ c. simp (c .match .keys13, members-count) cc) returns-14)

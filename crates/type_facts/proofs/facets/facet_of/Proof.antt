@@ -21,7 +21,11 @@ returns-9 c = simp (c .before .before .before .match .keys9, c .image-facet .ens
 
 returns-13 : tie.Need-returns-13
 unfolding typeFields
-returns-13 c = let r = c .before .match .rest in simp (ne-eqb _ _ (r .0 .0 .0 .0 .0 .0 .0 .0 .0 .0 .0 .1), ne-eqb _ _ (r .0 .0 .0 .0 .0 .0 .0 .0 .0 .0 .1), ne-eqb _ _ (r .0 .0 .0 .0 .0 .0 .0 .0 .0 .1), ne-eqb _ _ (r .0 .0 .0 .0 .0 .0 .0 .0 .1), ne-eqb _ _ (r .0 .0 .0 .0 .0 .0 .0 .1), ne-eqb _ _ (r .0 .0 .0 .0 .0 .0 .1), ne-eqb _ _ (r .0 .0 .0 .0 .0 .1), ne-eqb _ _ (r .0 .0 .0 .0 .1), ne-eqb _ _ (r .0 .0 .0 .1), ne-eqb _ _ (r .0 .0 .1), ne-eqb _ _ (r .0 .1), ne-eqb _ _ (r .1), c .u16-at2 .ensures, c .before .before .name-end .ensures .0)
+returns-13 c = simp (c .before .match .keys13, c .u16-at2 .ensures, c .before .before .name-end .ensures .0)
+
+returns-14 : tie.Need-returns-14
+unfolding typeFields
+returns-14 c = let r = c .before .match .rest in simp (ne-eqb _ _ (r .0 .0 .0 .0 .0 .0 .0 .0 .0 .0 .0 .0 .1), ne-eqb _ _ (r .0 .0 .0 .0 .0 .0 .0 .0 .0 .0 .0 .1), ne-eqb _ _ (r .0 .0 .0 .0 .0 .0 .0 .0 .0 .0 .1), ne-eqb _ _ (r .0 .0 .0 .0 .0 .0 .0 .0 .0 .1), ne-eqb _ _ (r .0 .0 .0 .0 .0 .0 .0 .0 .1), ne-eqb _ _ (r .0 .0 .0 .0 .0 .0 .0 .1), ne-eqb _ _ (r .0 .0 .0 .0 .0 .0 .1), ne-eqb _ _ (r .0 .0 .0 .0 .0 .1), ne-eqb _ _ (r .0 .0 .0 .0 .1), ne-eqb _ _ (r .0 .0 .0 .1), ne-eqb _ _ (r .0 .0 .1), ne-eqb _ _ (r .0 .1), c .u16-at3 .ensures, c .before .before .name-end .ensures .0)
 
 pub facet-of-spec : {M : Type 1} → statement M
 unfolding typeFields
@@ -30,7 +34,7 @@ facet-of-spec =
     (tie.spec (λ c κs. search needs) (λ c. search needs) (λ c κs. search needs) (λ c. search needs) (λ c. search needs)
     (λ c κs. search needs) (λ c. search needs) (λ c κs. search needs) (λ c κs. search needs) (λ c. search needs)
     (λ c κs. search needs) (λ c. search needs) (λ c κs. search needs) (λ c. search needs) (λ c κs. search needs)
-    (λ c κs. search needs) (λ c κs. search needs) (λ c. simp (c .match .keys1)) (λ c. simp (c .match .keys2)) returns-3
+    (λ c κs. search needs) (λ c κs. search needs) (λ c κs. search needs) (λ c. simp (c .match .keys1)) (λ c. simp (c .match .keys2)) returns-3
     (λ c. simp (c .match .keys4)) (λ c. simp (c .match .keys5)) (λ c. simp (c .match .keys6)) returns-7
     (λ c. simp (c .match .keys8)) returns-9 (λ c. simp (c .match .keys10)) (λ c. simp (c .match .keys11))
-    (λ c. simp (c .match .keys12)) returns-13)
+    (λ c. simp (c .match .keys12)) returns-13 returns-14)
