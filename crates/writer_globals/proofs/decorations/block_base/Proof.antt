@@ -24,10 +24,10 @@ returns-2 c =
 
 returns-3 : tie.Need-returns-3
 returns-3 c =
-    let a = @args in
-    let b = @base .given in
-    let f = @type-id in
-    on-base (eqb (spaceNumber (a .space)) 4) (indexOf (a .base)) (ap (λ (x : AddressSpace). eqb (spaceNumber x) 4) (@enum-told .given .1)) (ap indexOf (b .1)) (entry-got (b .0 .0) (a .w) (a .tables .now) (f .result) (f .ensures) (a .sections .now)) (@decorate .ensures)
+    let a = c .before .before .before .before .before .before .before .before .before .before .before .before .before .args in
+    let b = c .before .before .before .before .before .before .before .base .given in
+    let f = c .before .before .before .before .before .type-id in
+    on-base (eqb (spaceNumber (a .space)) 4) (indexOf (a .base)) (ap (λ (x : AddressSpace). eqb (spaceNumber x) 4) (c .before .before .before .before .before .before .before .before .before .enum-told .given .1)) (ap indexOf (b .1)) (entry-got (b .0 .0) (a .w) (a .tables .now) (f .result) (f .ensures) (a .sections .now)) (c .before .before .decorate .ensures)
 
 pub block-base-spec : {M : Type 1} → statement M
 block-base-spec =
