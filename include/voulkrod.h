@@ -12,10 +12,10 @@
  *   words    points to `words_length` words that nothing else reads or writes during the
  *            call. It is not null and is aligned to 4 bytes, even where words_length is
  *            0, and no word of it lies among the bytes of the sheet.
- *   stack    VOULKROD_STACK bytes are enough. Measured were 21 KB for sheets of up to 128
- *            bytes, 136 KB for up to 1,280, 266 KB for up to 4,096 and 0.71 MB for longer
- *            ones. On less, a call ends at the stack's guard page. Nothing is allocated
- *            elsewhere.
+ *   stack    VOULKROD_STACK bytes are enough. Measured were 18 KB for sheets of up to 128
+ *            bytes, 53 KB for up to 512, 119 KB for up to 1,280, 244 KB for up to 4,096 and
+ *            0.69 MB for longer ones. On less, a call ends at the stack's guard page.
+ *            Nothing is allocated elsewhere.
  *
  * The functions have no state: calls may go on in several threads at once, on one sheet
  * too. They always return, and the same arguments give the same answer.

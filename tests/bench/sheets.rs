@@ -496,8 +496,9 @@ pub fn worst() -> Vec<(&'static str, Vec<u8>)> {
     // Just above each class of scratch, which is cleared whole.
     out.push(("a byte over the first class of scratch", of_length(33)));
     out.push(("a byte over the second class of scratch", of_length(129)));
-    out.push(("a byte over the third class of scratch", of_length(1_281)));
-    out.push(("a byte over the fourth class of scratch", of_length(4_097)));
+    out.push(("a byte over the third class of scratch", of_length(513)));
+    out.push(("a byte over the fourth class of scratch", of_length(1_281)));
+    out.push(("a byte over the fifth class of scratch", of_length(4_097)));
     let length = full_length();
     out.push(("the full sheet", mix(256, 256, 64, length)));
     out

@@ -206,8 +206,8 @@ static size_t stack_of(char *stack, struct call *call) {
 }
 
 /* Sheets go by classes, each with its own stack (crates/declarations); the last class takes all others too. */
-enum { CLASSES = 4 };
-static const size_t class_ends[CLASSES] = {128, 1280, 4096, 16384};
+enum { CLASSES = 5 };
+static const size_t class_ends[CLASSES] = {128, 512, 1280, 4096, 16384};
 
 static void measure(int count, char **paths) {
     static struct sheet sheet;

@@ -437,8 +437,9 @@ pub fn sheets() -> Vec<(&'static str, Vec<u8>)> {
         ("256 types, 256 constants, 64 globals", full()),
         ("a byte over the first class of scratch", of_length(33)),
         ("a byte over the second class of scratch", of_length(129)),
-        ("a byte over the third class of scratch", of_length(1_281)),
-        ("a byte over the fourth class of scratch", of_length(4_097)),
+        ("a byte over the third class of scratch", of_length(513)),
+        ("a byte over the fourth class of scratch", of_length(1_281)),
+        ("a byte over the fifth class of scratch", of_length(4_097)),
     ];
     made.map(|(what, sheet)| (what, sheet.0)).into()
 }

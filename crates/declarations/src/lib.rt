@@ -18,6 +18,10 @@ const TINY: usize = 128;
 
 const TINY_RECORDS: usize = 43;
 
+const LITTLE: usize = 512;
+
+const LITTLE_RECORDS: usize = 171;
+
 const SMALL: usize = 1280;
 
 const SMALL_RECORDS: usize = 427;
@@ -168,6 +172,23 @@ fn answers_tiny(sheet: &[u8], words: &mut [u32], index: usize) -> Answers
     )
 }
 
+fn answers_little(sheet: &[u8], words: &mut [u32], index: usize) -> Answers
+    requires { ⌜ length (now sheet) ≤ 512 ⌝ }
+    ensures { λ r. ⌜ Answered (now (sheet .entry)) (now (words .entry)) index r (now (words .exit)) ⌝ }
+{
+    let mut tables = [0u64; 3761];
+    let mut sections = [0u32; 3584];
+    answers_in(
+        sheet,
+        &mut tables,
+        &mut sections,
+        LITTLE_RECORDS,
+        LITTLE,
+        words,
+        index,
+    )
+}
+
 fn answers_small(sheet: &[u8], words: &mut [u32], index: usize) -> Answers
     requires { ⌜ length (now sheet) ≤ 1280 ⌝ }
     ensures { λ r. ⌜ Answered (now (sheet .entry)) (now (words .entry)) index r (now (words .exit)) ⌝ }
@@ -235,16 +256,22 @@ fn answers_class(class: u8, sheet: &[u8], words: &mut [u32], index: usize) -> An
         return answers_class(2, sheet, words, index);
     }
     if class == 2 {
-        if sheet.len() <= SMALL {
-            return answers_small(sheet, words, index);
+        if sheet.len() <= LITTLE {
+            return answers_little(sheet, words, index);
         }
         return answers_class(3, sheet, words, index);
     }
     if class == 3 {
+        if sheet.len() <= SMALL {
+            return answers_small(sheet, words, index);
+        }
+        return answers_class(4, sheet, words, index);
+    }
+    if class == 4 {
         if sheet.len() <= MIDDLE {
             return answers_middle(sheet, words, index);
         }
-        return answers_class(4, sheet, words, index);
+        return answers_class(5, sheet, words, index);
     }
     answers_large(sheet, words, index)
 }

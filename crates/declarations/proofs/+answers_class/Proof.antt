@@ -9,6 +9,7 @@ use Rattle.declarations.proofs.answers_class.Kinds as answers-class-kin
 use Rattle.declarations.proofs.+answers_class.Lts-answers_class as answers-class-lts
 use Rattle.declarations.proofs.answers_large.Reads as answers-large-reads
 use Rattle.declarations.proofs.answers_least.Reads as answers-least-reads
+use Rattle.declarations.proofs.answers_little.Reads as answers-little-reads
 use Rattle.declarations.proofs.answers_middle.Reads as answers-middle-reads
 use Rattle.declarations.proofs.answers_small.Reads as answers-small-reads
 use Rattle.declarations.proofs.answers_tiny.Reads as answers-tiny-reads
@@ -16,7 +17,7 @@ use Rattle.declarations.proofs.+answers_class.{statement}
 use Rattle.declarations.proofs.+answers_class.Tie.{close}
 
 abbrev μ-answers-class : Measures 2 answers-class-kinds.ps ℕ
-μ-answers-class κs a = 5 - a .0
+μ-answers-class κs a = 6 - a .0
 
 abbrev answers-class-at : ℕ → In 2 answers-class-kinds.ps
 answers-class-at t =
@@ -31,12 +32,13 @@ answers-class-below t =
     answers-class.Pre
 
 abbrev answers-class-claims : ℕ → answers-class-lts.Claims
-answers-class-claims t = (answers-least-reads.Asked, answers-least-reads.Learnt, answers-class-below t, answers-class.Post, answers-tiny-reads.Asked, answers-tiny-reads.Learnt, answers-small-reads.Asked, answers-small-reads.Learnt, answers-middle-reads.Asked, answers-middle-reads.Learnt, answers-large-reads.Asked, answers-large-reads.Learnt)
+answers-class-claims t = (answers-least-reads.Asked, answers-least-reads.Learnt, answers-class-below t, answers-class.Post, answers-tiny-reads.Asked, answers-tiny-reads.Learnt, answers-little-reads.Asked, answers-little-reads.Learnt, answers-small-reads.Asked, answers-small-reads.Learnt, answers-middle-reads.Asked, answers-middle-reads.Learnt, answers-large-reads.Asked, answers-large-reads.Learnt)
 
 pub +answers-class-spec : {M : Type 1} → statement M
 +answers-class-spec = close μ-answers-class λ t. answers-class-lts.spec (answers-class-claims t)
     (answers-class-at t)
     answers-class.Post
+    (λ c κs. search needs) (λ c. search needs) (λ c. search needs) (λ c κs. search needs) (λ c. search needs) (λ c. search needs)
     (λ c κs. search needs) (λ c. search needs) (λ c. search needs) (λ c κs. search needs) (λ c. search needs) (λ c. search needs)
     (λ c κs. search needs) (λ c. search needs) (λ c. search needs) (λ c κs. search needs) (λ c. search needs) (λ c. search needs)
     (λ c κs. search needs) (λ c. search needs) (λ c. search needs) (λ c κs. search needs) (λ c. search needs) (λ c. search needs)
