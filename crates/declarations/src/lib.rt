@@ -176,8 +176,8 @@ fn answers_little(sheet: &[u8], words: &mut [u32], index: usize) -> Answers
     requires { ⌜ length (now sheet) ≤ 512 ⌝ }
     ensures { λ r. ⌜ Answered (now (sheet .entry)) (now (words .entry)) index r (now (words .exit)) ⌝ }
 {
-    let mut tables = [0u64; 3761];
-    let mut sections = [0u32; 3584];
+    let mut tables = [0u64; TABLE_NUMBERS * LITTLE_RECORDS + LITTLE];
+    let mut sections = [0u32; SECTION_WORDS * LITTLE];
     answers_in(
         sheet,
         &mut tables,

@@ -115,18 +115,7 @@ fn write_entry(
             options.debug,
         ),
         4 => writer_constants::write_constant(tables, sections, w, s, types, k.types, rest),
-        5 => writer_globals::write_global(
-            tables,
-            sections,
-            w,
-            s,
-            types,
-            k.types,
-            remaps,
-            k.remaps,
-            rest,
-            options,
-        ),
+        5 => writer_globals::write_global(tables, sections, w, s, types, remaps, k, rest, options),
         _ => w,
     }
 }

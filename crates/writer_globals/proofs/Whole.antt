@@ -39,13 +39,7 @@ use Rattle.writer_globals.proofs.Rooms.{_▹_, grown-within, words-left
 -- ---- room before each call
 
 module _ (k : ℕ) {w : Writer} {T S : List ℕ} (room : Room (globalCost k) w T S) {t : Writer} (g₀ : Grown anId w t) where
-  pub room-name : RoomFor (naming (k + 2)) t S
-  room-name = words-left (room .words) g₀ refl (omega arith)
-
   module _ {v₁ : Writer} (g₁ : Grown (naming (k + 2)) t v₁) where
-    pub room-access : {S′ : List ℕ} → length S′ ≡ length S → RoomFor (annotating 6) v₁ S′
-    room-access l = words-left (room .words) (g₀ ▹ g₁) l (omega arith)
-
     module _ {v₂ : Writer} (g₂ : Grown (annotating 6) v₁ v₂) where
       pub room-binding : {S′ : List ℕ} → length S′ ≡ length S → RoomFor (annotating 8) v₂ S′
       room-binding l = words-left (room .words) (g₀ ▹ g₁ ▹ g₂) l (omega arith)

@@ -1,24 +1,28 @@
 -- A global's declaration by what was read for it: the definition's rules, with their reading of the types done.
 use Prim.Native.Nat.{ℕ, suc}
 use mathlib.Core.Path.{_≡_}
+use mathlib.Core.Bool.{Bool, _&&_, _||_}
 use mathlib.Core.List.{List, [], _∷_}
 use mathlib.Core.Option.{Option, some, none}
+use lib.Dec.{eqb}
+use Rattle.definition.specs.Bytes.{nameEnd}
 use Rattle.definition.specs.Choice.{pick}
 use Rattle.definition.specs.Numbers.{DecorationOffset, DecorationBinding, DecorationDescriptorSet}
 use Rattle.definition.specs.Instructions.{decorate, memberDecorate, typeStruct, typePointer}
-use Rattle.definition.specs.Sheet.{TypeEntry, Remap, Global, Options}
+use Rattle.definition.specs.Sheet.{TypeEntry, Remap, Global, Options, privateSpace, workGroupSpace}
 use Rattle.definition.specs.Shapes.{storageClass, pointer, bindingPointer, entry, shape}
 use Rattle.definition.specs.State.{State, Got, got, takeId, annotate, declare}
 use Rattle.definition.specs.Tests.{Seen}
 use Rattle.definition.specs.Finding.{find}
-use Rattle.definition.specs.Rules.{GotInit, block, strideMember, needsWrapper, isBound, bindingBase, remapOf, innerAt, remappedForm, direct, wrapped, declareGlobal}
+use Rattle.definition.specs.Rules.{GotInit, block, strideMember, needsWrapper, isBound, bindingBase, remapOf, innerAt, accessOf, pointerOf, remappedForm, direct, wrapped, declareGlobal}
 use Rattle.definition.specs.Rules as Defined
 use Rattle.kinds.specs.Numbers.{spaceNumber, spaceAccess}
+use Rattle.entries.specs.Globals.{globalOf}
 use Rattle.entries.specs.declared.globals.Binding.{Binding}
 use Rattle.entries.specs.declared.globals.Binding.the-variants.{Unbound, Bound}
 use Rattle.entries.specs.declared.globals.GlobalVariable.{GlobalVariable}
 use Rattle.spirv.specs.Ids.{initOf}
-use Rattle.type_facts.specs.Facets.{numberOf}
+use Rattle.type_facts.specs.Facets.{numberOf, byteOf, indexOf}
 use Rattle.writer.specs.declared.Writer.{Writer}
 use Rattle.writer.specs.Cost.{Cost}
 use Rattle.writer.specs.Held.{Held, Grown}
@@ -27,6 +31,8 @@ use Rattle.finding.specs.Costs.{nullCost}
 use Rattle.writer_globals.specs.declared.pointers.PointerForm.{PointerForm}
 use Rattle.writer_globals.specs.declared.pointers.PointerForm.the-variants.{Direct, Wrapped, Remapped}
 use Rattle.writer_globals.specs.declared.Inited.{Inited}
+use Rattle.writer_globals.specs.declared.Plan.{Plan}
+use Rattle.writer_globals.specs.Costs.{globalCost}
 
 -- ---- the pointer
 
@@ -77,8 +83,21 @@ pub record Initialised (f : State → GotInit) (w : Writer) (T S : List ℕ) (r 
 
 -- ---- the whole
 
+-- a plan has what the rules read for a global, given the types, the remaps and whether memory is zeroed
+pub record Planned (ts : List TypeEntry) (rs : List Remap) (zeroing : Bool) (b : List ℕ) (g : GlobalVariable) (p : Plan) : Type 0 where
+  pub access : byteOf (p .access) ≡ accessOf ts (globalOf b g)
+  pub form : (x : State) → pointerBy (p .form) g x ≡ pointerOf (pointerFormIn ts rs (globalOf b g)) ts (globalOf b g) x
+  pub base : indexOf (p .base) ≡ bindingBase (innerAt ts (g .ty))
+  pub null : p .null ≡ (eqb (spaceNumber (g .space)) privateSpace || (eqb (spaceNumber (g .space)) workGroupSpace && zeroing))
+
 -- a global is declared, given the types and the remaps, whatever else was read
 pub record GlobalKept (c : Cost) (o : Options) (ts : List TypeEntry) (rs : List Remap) (g : Global) (w : Writer) (T S : List ℕ) (v : Writer) (T′ S′ : List ℕ) : Type 0 where
   pub grown : Grown c w v
   pub tail : Tail w T v T′
   pub held : (d : Seen) → d .types ≡ ts → d .remaps ≡ rs → (s : State) → Held w T S s → Held v T′ S′ (declareGlobal o d g s)
+
+-- a global is declared by its plan, whatever that was read of
+abbrev pub WrittenBy : Plan → Bool → List ℕ → GlobalVariable → Writer → List ℕ → List ℕ → Writer → List ℕ → List ℕ → Type 0
+WrittenBy p debug b g w T S v T′ S′ =
+    (ts : List TypeEntry) (rs : List Remap) (zeroing : Bool) → Planned ts rs zeroing b g p
+    → GlobalKept (globalCost (nameEnd b 0)) (record { debug = debug; zeroing = zeroing }) ts rs (globalOf b g) w T S v T′ S′

@@ -13,17 +13,21 @@ use entries::globals::GlobalVariable;
 use entries::globals::Init;
 use kinds::AddressSpace;
 use lookup::LookupType;
+use pointers::PointerForm;
 use pointers::pointer_form_of;
 use pointers::write_pointer;
+use records::Counts;
 use records::Options;
 use spirv::helpers::map_storage_class;
 use spirv::instructions::Initializer;
+use type_facts::Access;
+use type_facts::Base;
 use writer::Writer;
 use writer::sections;
 ghost use mathlib.Core.Path.{_≡_};
 ghost use mathlib.Core.Bool.{_&&_, _||_};
-ghost use mathlib.Core.List.{map};
-ghost use Prim.Native.Nat.{_+_, _≤_};
+ghost use mathlib.Core.List.{List, map};
+ghost use Prim.Native.Nat.{ℕ, _+_, _≤_};
 ghost use lib.Dec.{eqb};
 ghost use lib.ListN.{length, take};
 ghost use Rattle.definition.specs.Bytes.{nameEnd};
@@ -32,12 +36,12 @@ ghost use Rattle.definition.specs.Rules.{initFor};
 ghost use Rattle.kinds.specs.Numbers.{spaceNumber};
 ghost use Rattle.records.specs.Flags.{optionsFrom};
 ghost use Rattle.records.specs.Places.{remapFrom, typesFrom};
-ghost use Rattle.entries.specs.Globals.{globalOf, constantOf};
+ghost use Rattle.entries.specs.Globals.{constantOf};
 ghost use Rattle.writer.specs.Cost.{recordCost};
 ghost use Rattle.writer.specs.Held.{Room};
 ghost use Rattle.finding.specs.Costs.{nullCost};
 ghost use Rattle.writer_globals.specs.Costs.{globalCost};
-ghost use Rattle.writer_globals.specs.Globals.{Initialised, GlobalKept};
+ghost use Rattle.writer_globals.specs.Globals.{Initialised, Planned, GlobalKept, WrittenBy};
 ghost use Rattle.writer_globals.specs.Records.{globalIn, Tested};
 
 // The id of a global's init, if it has one.
@@ -100,63 +104,95 @@ fn write_init(
     }
 }
 
-// ---- the variable
+// ---- what is read
 
-// The global g of body b, given the first n types and the first m remaps of the sheet s.
-fn write_global_variable(
-    tables: &mut [u64],
-    sections: &mut [u32],
-    w: Writer,
+// What a global's declaration goes by, read of the sheet before anything is written.
+pub struct Plan {
+    pub access: Access,
+    pub form: PointerForm,
+    pub base: Base,
+    pub null: bool,
+}
+
+// The plan of the global g, given the first n types and the first m remaps of the sheet s.
+fn plan_of(
     s: &[u8],
     types: &[u32],
     n: usize,
     remaps: &[u32],
     m: usize,
+    g: GlobalVariable,
+    zeroing: bool,
+) -> Plan
+    requires { ⌜ (n ≤ length (now types)) × (m ≤ length (now remaps)) ⌝ }
+    ensures { λ r. ⌜ ((b : List ℕ) → Planned (typesFrom (now (s .entry)) (now (types .entry)) n) (map (remapFrom (now (s .entry))) (take m (now (remaps .entry)))) zeroing b g r) ⌝ }
+{
+    let space = g.space;
+    let access = access_of(s, types, n, g);
+    let form = pointer_form_of(s, types, n, remaps, m, g);
+    let base = type_facts::binding_base(s, types, n, g.ty as usize);
+    let null = gets_null(space, zeroing);
+    Plan {
+        access,
+        form,
+        base,
+        null,
+    }
+}
+
+// ---- the variable
+
+// The global g of body b by its plan.
+fn write_global_variable(
+    tables: &mut [u64],
+    sections: &mut [u32],
+    w: Writer,
     b: &[u8],
     g: GlobalVariable,
-    options: Options,
+    plan: Plan,
+    debug: bool,
 ) -> Writer
-    requires { ⌜ (n ≤ length (now types)) × (m ≤ length (now remaps)) × Room (globalCost (nameEnd (now b) 0)) w (now tables) (now sections) ⌝ }
-    ensures { λ r. ⌜ GlobalKept (globalCost (nameEnd (now (b .entry)) 0)) (optionsFrom options) (typesFrom (now (s .entry)) (now (types .entry)) n) (map (remapFrom (now (s .entry))) (take m (now (remaps .entry)))) (globalOf (now (b .entry)) g) w (now (tables .entry)) (now (sections .entry)) r (now (tables .exit)) (now (sections .exit)) ⌝ }
+    requires { ⌜ Room (globalCost (nameEnd (now b) 0)) w (now tables) (now sections) ⌝ }
+    ensures { λ r. ⌜ WrittenBy plan debug (now (b .entry)) g w (now (tables .entry)) (now (sections .entry)) r (now (tables .exit)) (now (sections .exit)) ⌝ }
 {
     let ty = g.ty;
     let space = g.space;
     let binding = g.binding;
     let init = g.init;
-    let access = access_of(s, types, n, g);
-    let form = pointer_form_of(s, types, n, remaps, m, g);
-    let base = type_facts::binding_base(s, types, n, g.ty as usize);
-    let null = gets_null(space, options.zeroing);
+    let access = plan.access;
+    let form = plan.form;
+    let base = plan.base;
     let class = map_storage_class(space);
     let t = writer::take_id(w);
     let id = t.id;
-    let a = name_global(sections, t.writer, options.debug, id, b);
+    let a = name_global(sections, t.writer, debug, id, b);
     let c = decorate_access(sections, a, id, access);
     let e = decorate_binding(sections, c, id, binding);
     let p = write_pointer(tables, sections, e, form, g);
     let f = block_base(tables, sections, p.writer, space, base);
-    let z = write_init(tables, sections, f, init, null, ty);
+    let z = write_init(tables, sections, f, init, plan.null, ty);
     let initializer = z.init;
     sections::variable(sections, z.writer, p.id, id, class, initializer)
 }
 
-// The global of the record at the front of `rest`: what test 10 lets through is declared as it was read.
+// The global of the record at the front of `rest`, given what was read before it: what test 10 lets through is declared as it was
+// read.
 pub fn write_global(
     tables: &mut [u64],
     sections: &mut [u32],
     w: Writer,
     s: &[u8],
     types: &[u32],
-    n: usize,
     remaps: &[u32],
-    m: usize,
+    k: Counts,
     rest: &[u8],
     options: Options,
 ) -> Writer
-    requires { ⌜ (n ≤ length (now types)) × (m ≤ length (now remaps)) × Tested n (recordAt (now rest)) × Room (recordCost (length (recordAt (now rest) .body) + 3)) w (now tables) (now sections) ⌝ }
-    ensures { λ r. ⌜ GlobalKept (recordCost (length (recordAt (now (rest .entry)) .body) + 3)) (optionsFrom options) (typesFrom (now (s .entry)) (now (types .entry)) n) (map (remapFrom (now (s .entry))) (take m (now (remaps .entry)))) (globalIn (recordAt (now (rest .entry)))) w (now (tables .entry)) (now (sections .entry)) r (now (tables .exit)) (now (sections .exit)) ⌝ }
+    requires { ⌜ (k .types ≤ length (now types)) × (k .remaps ≤ length (now remaps)) × Tested (k .types) (recordAt (now rest)) × Room (recordCost (length (recordAt (now rest) .body) + 3)) w (now tables) (now sections) ⌝ }
+    ensures { λ r. ⌜ GlobalKept (recordCost (length (recordAt (now (rest .entry)) .body) + 3)) (optionsFrom options) (typesFrom (now (s .entry)) (now (types .entry)) (k .types)) (map (remapFrom (now (s .entry))) (take (k .remaps) (now (remaps .entry)))) (globalIn (recordAt (now (rest .entry)))) w (now (tables .entry)) (now (sections .entry)) r (now (tables .exit)) (now (sections .exit)) ⌝ }
 {
     let b = records::body_of(rest);
     let g = entries::globals::global_of(b);
-    write_global_variable(tables, sections, w, s, types, n, remaps, m, b, g, options)
+    let plan = plan_of(s, types, k.types, remaps, k.remaps, g, options.zeroing);
+    write_global_variable(tables, sections, w, b, g, plan, options.debug)
 }
