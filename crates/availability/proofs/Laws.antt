@@ -25,12 +25,12 @@ use Rattle.definition.specs.Unfit.{checkedCapabilities, isAvailable, shapeAvail
 use Rattle.definition.proofs.Truth.{pick-for}
 use Rattle.lookup.specs.declared.VectorSize.{VectorSize}
 use Rattle.lookup.specs.declared.VectorSize.the-variants.{One, Many}
-use Rattle.lookup.specs.declared.PointerClass.{PointerClass}
-use Rattle.lookup.specs.declared.PointerClass.the-variants.{Nowhere, Class}
+use Rattle.lookup.specs.declared.PointerSpace.{PointerSpace}
+use Rattle.lookup.specs.declared.PointerSpace.the-variants.{Nowhere, Class}
 use Rattle.lookup.specs.declared.LocalType.{LocalType}
 use Rattle.lookup.specs.declared.LocalType.the-variants.{Value, Matrix, Pointer, Image, Sampler, PointerToBindingArray, BindingArray, AccelerationStructure, RayQuery}
 use Rattle.lookup.specs.declared.Capabilities.{Capabilities}
-use Rattle.lookup.specs.Local.{valueOf, shapeOf, asList}
+use Rattle.lookup.specs.Local.{valueOf, localShape, asList}
 use Rattle.lookup.proofs.LocalType.{the-type}
 use Rattle.availability.specs.declared.Available.{Available}
 use Rattle.availability.specs.Flags.{Flagged, flagOf}
@@ -112,7 +112,7 @@ in-turn a k xs t e h =
     ∙ sym (parts (flagOf a) (asList (k .first)) (asList (k .second))) ∙ ap (every (flagOf a)) e
 
 -- nothing is asked of a value: a scalar's capabilities are used unasked, and a vector and a pointer have none
-pub of-value : (z : VectorSize) (k : Kind) (c : PointerClass) → [] ≡ checkedCapabilities (valueOf z k c)
+pub of-value : (z : VectorSize) (k : Kind) (c : PointerSpace) → [] ≡ checkedCapabilities (valueOf z k c)
 of-value One k Nowhere = refl
 of-value (Many n) k Nowhere = refl
 of-value z k (Class c) = refl
@@ -122,7 +122,7 @@ abbrev pub others : List ℕ
 others = 1 ∷ 2 ∷ 3 ∷ 4 ∷ 5 ∷ 6 ∷ 7 ∷ 8 ∷ []
 
 -- all is asked that any other shape uses
-pub of-other : (l : LocalType) → OneOf others (tagOf the-type l) → capabilitiesOf (shapeOf l) ≡ checkedCapabilities (shapeOf l)
+pub of-other : (l : LocalType) → OneOf others (tagOf the-type l) → capabilitiesOf (localShape l) ≡ checkedCapabilities (localShape l)
 of-other (Value z k w c) h = absurd (miss others 0 tt h)
 of-other (Matrix c r w) h = refl
 of-other (Pointer b c) h = refl

@@ -1,7 +1,7 @@
 // Test 14: whether the capabilities that a type's rules check are available (`require_any` and `request_type_capabilities` of the
 // Rust's `writer.rs`). It is asked of types alone, and needs nothing of the writer's state.
 use entries::types::TypeInner;
-use locals::Made;
+use locals::MaybeLocal;
 use locals::make_local;
 use lookup::CAPABILITY_IMAGE_1D;
 use lookup::CAPABILITY_IMAGE_CUBE_ARRAY;
@@ -23,7 +23,7 @@ ghost use Rattle.definition.specs.Tests.{Seen, addRecord};
 ghost use Rattle.definition.specs.Shapes.{shapeOf as definedShape};
 ghost use Rattle.definition.specs.Unfit.{checkedCapabilities, shapeAvailable};
 ghost use Rattle.entries.specs.Types.{innerOf};
-ghost use Rattle.lookup.specs.Local.{shapeOf, asList};
+ghost use Rattle.lookup.specs.Local.{localShape, asList};
 ghost use Rattle.availability.specs.Flags.{Flagged, flagOf};
 
 // Whether each capability that a rule checks is available, under the Specification's name. A sheet may ask for one hundreds of
@@ -109,7 +109,7 @@ fn is_available(a: Available, cap: u32) -> bool
 
 // The capabilities of a shape that must be available. A scalar's are used unasked; a vector and a pointer have none.
 fn checked_capabilities(l: LocalType) -> Capabilities
-    ensures { λ r. ⌜ asList (r .first) ++ asList (r .second) ≡ checkedCapabilities (shapeOf l) ⌝ }
+    ensures { λ r. ⌜ asList (r .first) ++ asList (r .second) ≡ checkedCapabilities (localShape l) ⌝ }
 {
     match l {
         LocalType::Value {
@@ -127,7 +127,7 @@ fn checked_capabilities(l: LocalType) -> Capabilities
 
 // Test 14 of a shape.
 fn shape_available(a: Available, l: LocalType) -> bool
-    ensures { λ r. ⌜ r ≡ every (flagOf a) (checkedCapabilities (shapeOf l)) ⌝ }
+    ensures { λ r. ⌜ r ≡ every (flagOf a) (checkedCapabilities (localShape l)) ⌝ }
 {
     let c = checked_capabilities(l);
     if !is_available(a, c.first) {
@@ -137,20 +137,20 @@ fn shape_available(a: Available, l: LocalType) -> bool
 }
 
 // Test 14 of a type, whatever the body is that it was read from: an aggregate, which alone would read it, has no shape.
-pub fn type_available(a: Available, t: TypeInner) -> bool
-    ensures { λ r. ⌜ ((o : Option (List ℕ)) → Flagged o a → (b : List ℕ) (n : ℕ) → r ≡ shapeAvailable o (definedShape (innerOf b n t))) ⌝ }
+pub fn type_available(a: Available, inner: TypeInner) -> bool
+    ensures { λ r. ⌜ ((o : Option (List ℕ)) → Flagged o a → (b : List ℕ) (n : ℕ) → r ≡ shapeAvailable o (definedShape (innerOf b n inner))) ⌝ }
 {
-    match make_local(t) {
-        Made::Local(l) => shape_available(a, l),
-        Made::Aggregate => true,
+    match make_local(inner) {
+        MaybeLocal::Local(l) => shape_available(a, l),
+        MaybeLocal::Aggregate => true,
     }
 }
 
 // Whether a type of this tag can need a capability that is checked: an image, an acceleration structure or a ray query.
-pub fn is_checked(t: u8) -> bool
-    ensures { λ r. ⌜ (r ≡ false → (o : Option (List ℕ)) (b : List ℕ) (n : ℕ) → shapeAvailable o (definedShape (typeFields t b n .value)) ≡ true) ⌝ }
+pub fn is_checked(tag: u8) -> bool
+    ensures { λ r. ⌜ (r ≡ false → (o : Option (List ℕ)) (b : List ℕ) (n : ℕ) → shapeAvailable o (definedShape (typeFields tag b n .value)) ≡ true) ⌝ }
 {
-    match t {
+    match tag {
         24 => true,
         26 => true,
         27 => true,

@@ -24,16 +24,16 @@ use Rattle.kinds.specs.Numbers.{spaceNumber}
 use Rattle.records.specs.declared.Counts.{Counts}
 use Rattle.records.specs.Places.{Places, placesOf, Ample, typesFrom, globalFrom}
 use Rattle.entries.specs.declared.globals.GlobalVariable.{GlobalVariable}
-use Rattle.entries.specs.Globals.{TakenFrom}
+use Rattle.entries.specs.Globals.{GlobalTakenFrom}
 use Rattle.writer.specs.declared.Writer.{Writer}
 use Rattle.sheet_writer.specs.declared.Outcome.{Outcome}
 use Rattle.sheet_writer.specs.declared.Outcome.the-variants.{Refused, Fit}
-use Rattle.sheet_writer.specs.Whole.{beforeBound, Capacity, CameTo}
+use Rattle.sheet_writer.specs.Whole.{beforeBound, Capacity, SheetWritten}
 use Rattle.module_layout.specs.declared.Answer.{Answer}
 use Rattle.module_layout.specs.declared.Answer.the-variants.{Written as Wrote, Refused as Refuses}
-use Rattle.module_layout.specs.Finished.{answerOf, declaredAs, Worded, Roomy, Counted, Finished}
+use Rattle.module_layout.specs.Finished.{answerOf, declaredAs, Worded, Roomy, CountFits, Finished}
 use Rattle.declarations.specs.Promise.{DeclarePromise, CheckPromise, WrappedPromise, verdictAs, wrappingAs}
-use Rattle.declarations.specs.Stages.{Lent, Roomed, Ended, Stood, Standing, WrappedAs, verdictFrom}
+use Rattle.declarations.specs.Stages.{Lent, Roomed, Ended, PlacesStand, Standing, WrappedAs, verdictFrom}
 use Rattle.declarations.specs.declared.Verdict.the-variants as program
 use Rattle.declarations.specs.declared.Wrapping.{Wrapping as Answered}
 use Rattle.declarations.specs.declared.Wrapping.the-variants as wraps
@@ -50,7 +50,7 @@ all-bytes (x ∷ s) f b m = go (List·Memᴰ·cases-cons m) (λ n. all-bytes s (
 
 -- ---- Declare
 
-counted-small : (a : Answer) (m bound : ℕ) → Counted a → answerOf a ≡ Meant.Written m bound → m < 4294967296
+counted-small : (a : Answer) (m bound : ℕ) → CountFits a → answerOf a ≡ Meant.Written m bound → m < 4294967296
 counted-small (Wrote n b) m bound c e = let q : n ≡ m = cc in omega arith
 counted-small (Refuses n) m bound c e = let z : _≡_ {A = ℕ} 0 1 = cc in absurd (omega arith)
 
@@ -79,7 +79,7 @@ module _ (s : List ℕ) where
     refused-small : (n m bound : ℕ) → answerOf a ≡ Meant.Refused n → answerOf a ≡ Meant.Written m bound → m < 4294967296
     refused-small n m bound e f = let z : _≡_ {A = ℕ} 0 1 = cc in absurd (omega arith)
 
-    pub declared : (bytes : ℕ) (p : Places) (T S : List ℕ) (o : Outcome) → IsBytes s → CameTo s bytes p T S o → Ended S o b a after → DeclarePromise s b a after
+    pub declared : (bytes : ℕ) (p : Places) (T S : List ℕ) (o : Outcome) → IsBytes s → SheetWritten s bytes p T S o → Ended S o b a after → DeclarePromise s b a after
     declared nb p T S (Refused n) bytes c e = kept bytes (λ m bound w. refused-small n m bound (ap (λ (d : Declared). d .answer) e) w) (as-declared (refused n) c e)
     declared nb p T S (Fit k w) bytes c e = kept bytes (λ m bound. counted-small a m bound (e .counted)) (as-declared (fit (c .progress)) (c .same) (e .says (c .progress) T (c .held) (worded bytes (c .progress) (c .same))))
 
@@ -97,7 +97,7 @@ pub ample : Ample (placesOf (replicate 64 0) (replicate 512 0) (replicate 256 0)
 ample = record { remaps = simp length-replicate (omega arith); types = simp length-replicate (omega arith); constants = simp length-replicate (omega arith); globals = simp length-replicate (omega arith) }
 
 -- the sections have room for what is in use
-pub roomed : (s : List ℕ) (bytes : ℕ) (p : Places) (T S : List ℕ) (o : Outcome) → CameTo s bytes p T S o → bytes ≤ 65536 → Roomed S o
+pub roomed : (s : List ℕ) (bytes : ℕ) (p : Places) (T S : List ℕ) (o : Outcome) → SheetWritten s bytes p T S o → bytes ≤ 65536 → Roomed S o
 roomed s bytes p T S (Refused n) c h = tt
 roomed s bytes p T S (Fit k w) c h = record { room = c .room .words; few = omega (arith, c .size) }
 
@@ -147,7 +147,7 @@ at-place s [] (suc n) i d h l = absurd (not-suc-le-zero l)
 at-place s (g ∷ gs) (suc n) zero d h l = refl
 at-place s (g ∷ gs) (suc n) (suc i) d h l = at-place s gs n i d (omega arith) (omega arith)
 
-pub standing : (s : List ℕ) (bytes : ℕ) (p : Places) (T S : List ℕ) (o : Outcome) → CameTo s bytes p T S o → Standing s (p .types) (p .globals) o
+pub standing : (s : List ℕ) (bytes : ℕ) (p : Places) (T S : List ℕ) (o : Outcome) → SheetWritten s bytes p T S o → Standing s (p .types) (p .globals) o
 standing s bytes p T S (Refused n) c = tt
 standing s bytes p T S (Fit k w) c =
     let g : k .globals ≤ length (p .globals) = omega (arith, c .ample .globals, c .few .globals) in
@@ -157,11 +157,11 @@ standing s bytes p T S (Fit k w) c =
       fits = λ i h. subst (λ (x : Global). valuesFit (global x) ≡ true) (at-place s (p .globals) (k .globals) i noGlobal h g) (c .globals i);
     }
 
-pub wrapped-as : (s : List ℕ) (bytes : ℕ) (p : Places) (T S : List ℕ) (o : Outcome) (index : ℕ) (r : Answered) → CameTo s bytes p T S o → WrappedAs s (p .types) (p .globals) o index r → WrappedPromise s index r
+pub wrapped-as : (s : List ℕ) (bytes : ℕ) (p : Places) (T S : List ℕ) (o : Outcome) (index : ℕ) (r : Answered) → SheetWritten s bytes p T S o → WrappedAs s (p .types) (p .globals) o index r → WrappedPromise s index r
 unfolding wrapped
 wrapped-as s bytes p T S o index r c a = let q = same o c a in record { answered = rw q (wrapped-answers s index); same = q }
   where
-    same : (o : Outcome) → CameTo s bytes p T S o → WrappedAs s (p .types) (p .globals) o index r → wrappingAs r ≡ wrapped s index
+    same : (o : Outcome) → SheetWritten s bytes p T S o → WrappedAs s (p .types) (p .globals) o index r → wrappingAs r ≡ wrapped s index
     same (Refused n) c a = a ∙ ap (λ (j : Judged Progress). wrappingOf index (boundTest j)) c ∙ sym (ap (wrappingOf index) (is-judged s))
     same (Fit k w) c a =
         a (c .progress) (ap (λ (n : Seen). n .types) (c .seen)) (ap (λ (n : Seen). n .globals) (c .seen)) (c .held .last)
@@ -173,7 +173,7 @@ module _ (s ts gs : List ℕ) (o : Outcome) (index : ℕ) where
   wraps-refused n e = rw e refl
 
   module _ (k : Counts) (w : Writer) (e : o ≡ Fit k w) where
-    pub stood : Standing s ts gs o → Stood s ts gs (k .types) (k .globals)
+    pub stood : Standing s ts gs o → PlacesStand s ts gs (k .types) (k .globals)
     stood h = subst (Standing s ts gs) e h
 
     pub wraps-15 : 4194303 ≤ w .idgen .last → WrappedAs s ts gs o index (wraps.Refused 15)
@@ -193,7 +193,7 @@ module _ (s ts gs : List ℕ) (o : Outcome) (index : ℕ) where
           rw (le-leb (boundOf (p .state)) boundMost (omega arith), lt-ltb index (length (p .seen .globals)) l) (ap MeantWrapping.Wraps z))
 
 -- the global that was taken from its record is the one that was read
-pub taken-wraps : (s ts gs : List ℕ) (n index i : ℕ) (g : GlobalVariable) (y : Bool) → TakenFrom s (getD gs index 0) g → valuesFit (global (globalFrom s (getD gs index 0))) ≡ true → g .ty ≡ i
+pub taken-wraps : (s ts gs : List ℕ) (n index i : ℕ) (g : GlobalVariable) (y : Bool) → GlobalTakenFrom s (getD gs index 0) g → valuesFit (global (globalFrom s (getD gs index 0))) ≡ true → g .ty ≡ i
     → ((x : Global) → x .type ≡ i → x .space ≡ spaceNumber (g .space) → y ≡ needsWrapper (typesFrom s ts n) x) → y ≡ needsWrapper (typesFrom s ts n) (globalFrom s (getD gs index 0))
 taken-wraps s ts gs n index i g y t v ei f =
     let e = t v in

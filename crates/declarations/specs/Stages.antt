@@ -48,14 +48,14 @@ verdictFrom (Wrote n bound) = verdict.Fit
 verdictFrom (Refuses n) = pick (eqb n 16) verdict.Fit (verdict.Refused n)
 
 -- where the records are read, the types and the globals stand at their places, and each global passed test 10
-pub record Stood (s ts gs : List ℕ) (types globals : ℕ) : Type 0 where
+pub record PlacesStand (s ts gs : List ℕ) (types globals : ℕ) : Type 0 where
   pub in-types : types ≤ length ts
   pub in-globals : globals ≤ length gs
   pub fits : (i : ℕ) → i < globals → valuesFit (global (globalFrom s (getD gs i 0))) ≡ true
 
 abbrev pub Standing : List ℕ → List ℕ → List ℕ → Outcome → Type 0
 Standing s ts gs (Refused n) = Unit
-Standing s ts gs (Fit k w) = Stood s ts gs (k .types) (k .globals)
+Standing s ts gs (Fit k w) = PlacesStand s ts gs (k .types) (k .globals)
 
 -- the answer is the definition's, of whatever it comes to with these types, these globals and this last id
 abbrev pub WrappedAs : List ℕ → List ℕ → List ℕ → Outcome → ℕ → Wrapping → Type 0

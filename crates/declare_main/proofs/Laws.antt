@@ -13,10 +13,10 @@ use Rattle.definition.specs.State.{boundOf, moduleWords}
 use Rattle.definition.specs.Tests.{Judged, refused, fit}
 use Rattle.definition.specs.Operations.{Progress, Declared, Written, unchanged, declaredOf, judged, declare}
 use Rattle.printing.proofs.Long.{held, judged-held}
-use Rattle.declare_main.specs.Answers.{printed, lent, answerTo, Counted}
+use Rattle.declare_main.specs.Answers.{printed, wordsLent, answerTo, CountWithin}
 
 abbrev Within : Declared → Type 0
-Within d = Counted (d .answer) (d .buffer)
+Within d = CountWithin (d .answer) (d .buffer)
 
 written : (ws : List ℕ) (bound : ℕ) (b : List ℕ) (t : Bool) → fits ws b ≡ t
     → Within (pick t (record { answer = Written (length ws) bound; buffer = put ws b }) (unchanged 16 b))
@@ -36,4 +36,4 @@ counted s b = judging b (judged s)
 
 pub answer-held : (s : List ℕ) → answerTo (held s) ≡ answerTo s
 unfolding declare
-answer-held s = ap (λ (j : Judged Progress). printed (declaredOf (replicate lent 0) j)) (judged-held s)
+answer-held s = ap (λ (j : Judged Progress). printed (declaredOf (replicate wordsLent 0) j)) (judged-held s)

@@ -15,14 +15,14 @@ abbrev pub printed : Declared → List ℕ
 printed d = textOf (d .answer) (d .buffer)
 
 -- how many words are lent
-abbrev pub lent : ℕ
-lent = 16384
+abbrev pub wordsLent : ℕ
+wordsLent = 16384
 
 -- what is printed for a sheet
 abbrev pub answerTo : List ℕ → List ℕ
-answerTo s = printed (declare s (replicate lent 0))
+answerTo s = printed (declare s (replicate wordsLent 0))
 
 -- the count of words lies within the buffer
-abbrev pub Counted : Answer → List ℕ → Type 0
-Counted (Written n bound) ws = n ≤ length ws
-Counted (Answer.Refused n) ws = Unit
+abbrev pub CountWithin : Answer → List ℕ → Type 0
+CountWithin (Written n bound) ws = n ≤ length ws
+CountWithin (Answer.Refused n) ws = Unit

@@ -5,7 +5,7 @@ ghost use Prim.Native.Nat.{_*_, _≤_};
 ghost use lib.ListN.{length};
 ghost use Rattle.module_layout.specs.Finished.{answerOf, declaredAs};
 ghost use Rattle.printing.specs.Text.{Printed};
-ghost use Rattle.declare_main.specs.Answers.{printed, answerTo, Counted};
+ghost use Rattle.declare_main.specs.Answers.{printed, answerTo, CountWithin};
 
 // How many words Declare is lent.
 const WORDS: usize = 16384;
@@ -18,11 +18,11 @@ const SHEET: usize = 16385;
 
 // Puts the words that were written, or the refusal, at the front of the text.
 fn put_answer(a: Answer, words: &[u32], text: &mut [u8]) -> usize
-    requires { ⌜ Counted (answerOf a) (now words) × (9 * length (now words) ≤ length (now text)) × (12 ≤ length (now text)) ⌝ }
+    requires { ⌜ CountWithin (answerOf a) (now words) × (9 * length (now words) ≤ length (now text)) × (12 ≤ length (now text)) ⌝ }
     ensures { λ r. ⌜ Printed (printed (declaredAs a (now (words .entry)))) (now (text .entry)) (now (text .exit)) r ⌝ }
 {
     match a {
-        Answer::Written(n, _) => printing::put_words(text, words, n),
+        Answer::Written(n, _) => printing::put_lines(text, words, n),
         Answer::Refused(n) => printing::put_refusal(text, n),
     }
 }

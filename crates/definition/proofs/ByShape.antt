@@ -13,7 +13,7 @@ use Rattle.definition.specs.Reader.{uses, idsAmong, layoutOf, formed}
 use Rattle.definition.specs.ReadTypes.{declarationOf, bytesOf, scalarBy, readScalar, readVector, typeBy}
 use Rattle.definition.specs.Shapes.{Kind, Shape, Key, inner, sized, rank, rankOf, opcodeOf, operandsOf, typeOf}
 use Rattle.definition.specs.Shapes.{sint, uint, float, bool, one, many, scalar, vector, matrix, pointer, valuePointer, image, sampler, accelerationStructure, rayQuery, bindingArray, bindingPointer, entry, shape}
-use Rattle.definition.specs.WellDeclared.{plainType, EqualTypes, declaring, needs, intNeeds}
+use Rattle.definition.specs.WellDeclared.{plainType, EqualTypes, declaresId, needs, intNeeds}
 use Rattle.definition.specs.Finding.{capabilitiesOf, kindCapabilities}
 use Rattle.definition.proofs.Truth.{both-true, true-is, alike-is}
 use Rattle.definition.proofs.Images.{images-agree}
@@ -32,8 +32,8 @@ lengthIds (some n) y = y ∷ []
 pub record Formed (d : Instruction) : Type 0 where
   pub small : d .opcode < 65536
   pub known : layoutOf (d .opcode) .known ≡ true
-  pub typed : layoutOf (d .opcode) .typed ≡ declaring (d .type)
-  pub declares : layoutOf (d .opcode) .declares ≡ declaring (d .result)
+  pub typed : layoutOf (d .opcode) .typed ≡ declaresId (d .type)
+  pub declares : layoutOf (d .opcode) .declares ≡ declaresId (d .result)
   pub operands : formed (layoutOf (d .opcode) .operands) (d .operands) ≡ true
 
 -- the same as one test, which the checker computes
@@ -41,21 +41,21 @@ abbrev pub takes : Instruction → Bool
 takes d =
     ltb (d .opcode) 65536
     && (layoutOf (d .opcode) .known
-    && (Bool·beq (layoutOf (d .opcode) .typed) (declaring (d .type))
-    && (Bool·beq (layoutOf (d .opcode) .declares) (declaring (d .result))
+    && (Bool·beq (layoutOf (d .opcode) .typed) (declaresId (d .type))
+    && (Bool·beq (layoutOf (d .opcode) .declares) (declaresId (d .result))
     && formed (layoutOf (d .opcode) .operands) (d .operands))))
 
 pub taken : {d : Instruction} → T (takes d) → Formed d
 taken {d} t =
     let a = both-true (ltb (d .opcode) 65536) _ t in
     let b = both-true (layoutOf (d .opcode) .known) _ (a .1) in
-    let c = both-true (Bool·beq (layoutOf (d .opcode) .typed) (declaring (d .type))) _ (b .1) in
-    let e = both-true (Bool·beq (layoutOf (d .opcode) .declares) (declaring (d .result))) _ (c .1) in
+    let c = both-true (Bool·beq (layoutOf (d .opcode) .typed) (declaresId (d .type))) _ (b .1) in
+    let e = both-true (Bool·beq (layoutOf (d .opcode) .declares) (declaresId (d .result))) _ (c .1) in
     record {
       small = ltb→lt (d .opcode) 65536 (a .0);
       known = true-is (layoutOf (d .opcode) .known) (b .0);
-      typed = alike-is (layoutOf (d .opcode) .typed) (declaring (d .type)) (c .0);
-      declares = alike-is (layoutOf (d .opcode) .declares) (declaring (d .result)) (e .0);
+      typed = alike-is (layoutOf (d .opcode) .typed) (declaresId (d .type)) (c .0);
+      declares = alike-is (layoutOf (d .opcode) .declares) (declaresId (d .result)) (e .0);
       operands = true-is (formed (layoutOf (d .opcode) .operands) (d .operands)) (e .1);
     }
 

@@ -22,7 +22,7 @@ use Rattle.definition.specs.Shapes.{Kind, Shape, Key, sameKey, shapeOf, 
 use Rattle.definition.specs.Shapes.{scalar, vector, matrix, pointer, valuePointer, image, sampler, accelerationStructure, rayQuery, bindingArray, bindingPointer}
 use Rattle.definition.specs.State.{State, occurrences, lookup, idOf, boundOf, capabilityInstructions, instructions, moduleWords}
 use Rattle.definition.specs.Operations.{Progress, judged, Written, unchanged, declaredOf, declare}
-use Rattle.definition.specs.WellDeclared.{times, once, declaring, Above, NoEqualTypes, plainType, targets, targetOf, marks, needs, listedIn, listedBy, needed, WellDeclared, HasShape, EntriesDeclared, Demand3, writtenOf, Accepted, Demand3OfDeclare}
+use Rattle.definition.specs.WellDeclared.{times, once, declaresId, Above, NoEqualTypes, plainType, targets, targetOf, marks, needs, listedIn, listedBy, needed, WellDeclared, HasShape, EntriesDeclared, Demand3, writtenOf, Accepted, Demand3OfDeclare}
 use Rattle.definition.proofs.Lists.{same-itself, times-append, times-in, targets-append, upTo-in, upTo-out, lookup-in, lookup-out}
 use Rattle.definition.proofs.Sizes.{W}
 use Rattle.definition.proofs.ByShape.{taken, FitsIn, ReadAs, ReadIn, scalar-by, facts}
@@ -67,7 +67,7 @@ above-weaker b c (d ∷ ds) le h = (λ t u m. omega (arith, h .0 t u m, le u), a
 quiet-above : (b xs ds : List Instruction) → AllQuiet xs → Above b ds → Above b (xs ++ ds)
 quiet-above b [] ds q h = h
 quiet-above b (x ∷ xs) ds q h = (
-  λ t. absurd (subst (λ (o : Option ℕ). T (declaring o)) (head-quiet x xs q .silent) t),
+  λ t. absurd (subst (λ (o : Option ℕ). T (declaresId o)) (head-quiet x xs q .silent) t),
   quiet-above (b ++ x ∷ []) xs ds (tail-quiet x xs q) (above-weaker b (b ++ x ∷ []) ds (λ i. omega (arith, times-append i b (x ∷ []))) h),
 )
 
@@ -153,7 +153,7 @@ listed-append (x ∷ xs) ys = rw (listed-append xs ys) (sym (append-assoc (liste
 module _ (last : ℕ) (d : Instruction) (h : Declaration last d) where
   not-opcode : (o : ℕ) → layoutOf o .declares ≡ false → d .opcode ≡ o → ⊥
   not-opcode o f e =
-      let a : layoutOf (d .opcode) .declares ≡ true = h .formed .declares ∙ ap declaring (h .result) in
+      let a : layoutOf (d .opcode) .declares ≡ true = h .formed .declares ∙ ap declaresId (h .result) in
       let b : layoutOf (d .opcode) .declares ≡ false = ap (λ (x : ℕ). layoutOf x .declares) e ∙ f in
       let z : _≡_ {A = ℕ} 0 1 = cc in omega arith
 

@@ -11,12 +11,12 @@ use native.Mathlib.Omega.{arith}
 use lib.Dec.{T, eqb, lit<, lit≤}
 use lib.ListN.{length}
 use Rattle.definition.specs.Choice.{pick}
-use Rattle.definition.specs.Instructions.{Instruction, constant, constantTrue, constantFalse}
+use Rattle.definition.specs.Instructions.{Instruction, constantOp, constantTrue, constantFalse}
 use Rattle.definition.specs.Reader.{uses}
 use Rattle.definition.specs.Literals.{Literal, f64, f32, u32, i32, boolean, sameLiteral}
 use Rattle.definition.specs.Shapes.{Shape, Key, sameKey, inner, sized, rank, rankOf, typeOf, float}
 use Rattle.definition.specs.Shapes.{scalar, vector, matrix, pointer, valuePointer, image, sampler, accelerationStructure, rayQuery, bindingArray, bindingPointer, entry, shape, one, many}
-use Rattle.definition.specs.State.{Constants, State, Got, lookup, same, takeId, enter, withConstants, declare, declareWith}
+use Rattle.definition.specs.State.{Constants, State, Got, lookup, same, takeId, enter, withConstants, declareAlone, declareWith}
 use Rattle.definition.specs.Finding.{capabilitiesOf, literalKind, literalOp, enterLiteral, orNewValue, literalWith, innerGot, lengthGot, newKey, orNewKey, findAt, find}
 use Rattle.definition.specs.WellDeclared.{times, once, EqualTypes, plainType, needs}
 use Rattle.definition.proofs.Lists.{last-in, snoc-cases, same-itself, times-snoc, times-in, lookup-in, lookup-out}
@@ -41,7 +41,7 @@ grew-trans g h = record { more = λ k i m. h .more k i (g .more k i m); still = 
 pub with-grew : (cs : List ℕ) (d : Instruction) (s : State) → Grew s (declareWith cs d s)
 with-grew cs d s = record { more = λ k i m. m; still = λ i. omega (arith, times-snoc i (s .declarations) d); up = omega arith; values = refl; fresh = λ h i m. m }
 
-pub declare-grew : (d : Instruction) (s : State) → Grew s (declare d s)
+pub declare-grew : (d : Instruction) (s : State) → Grew s (declareAlone d s)
 declare-grew d s = with-grew [] d s
 
 pub enter-grew : (l : Shape) (id : ℕ) (s : State) → Grew s (enter (shape l) id s)
@@ -141,7 +141,7 @@ more-declared x xs s h g u m = go (List·Memᴰ·cases-cons m)
     go (inr n) = g u n
 
 -- an id is declared by the instruction that was written last
-pub just-declared : (id : ℕ) (d : Instruction) (s : State) → d .result ≡ some id → 1 ≤ times id (declare d s .declarations)
+pub just-declared : (id : ℕ) (d : Instruction) (s : State) → d .result ≡ some id → 1 ≤ times id (declareAlone d s .declarations)
 just-declared id d s e = omega (arith, times-snoc id (s .declarations) d, ap (λ (o : Option ℕ). once o id) e, same-itself id)
 
 pub record GotId (start : ℕ) (P : List (ℕ × ℕ)) (s : State) (g : Got) : Type 0 where
@@ -174,7 +174,7 @@ SmallLiteral (boolean n) = Unit
 singleton-used : (s : State) (t u : ℕ) → List·Memᴰ u (t ∷ []) → (u ≡ t) ⊎ (1 ≤ times u (s .declarations))
 singleton-used s t u m = inl (List·Memᴰ·eq-of-singleton m)
 
-constant-writes : (s : State) (x : ℕ) (xs : List ℕ) → ((last : ℕ) → W ≤ last → Under last (x ∷ xs)) → length xs ≤ 1 → Writes s (λ t id. constant t id (x ∷ xs))
+constant-writes : (s : State) (x : ℕ) (xs : List ℕ) → ((last : ℕ) → W ≤ last → Under last (x ∷ xs)) → length xs ≤ 1 → Writes s (λ t id. constantOp t id (x ∷ xs))
 unfolding needs uses
 constant-writes s x xs small few = record {
   result = λ t id. refl;
@@ -300,7 +300,7 @@ module _ (start : ℕ) where
       let g = f k (takeId s) in
       let r : Found start ((9, id) ∷ P) (takeId s) k g = fs k (takeId s) ((9, id) ∷ P) deep (omega (arith, shallow-key k), ov) gr (take-sound start 9 P s h) in
       let d = write (g .id) id in
-      let t = declare d (g .state) in
+      let t = declareAlone d (g .state) in
       let new : 1 ≤ times id (t .declarations) = just-declared id d (g .state) (w .result (g .id) id) in
       let fits : Sized (g .state .last) d = w .fits (g .state .last) (g .id) id (low ((9, id) ∷ P) (g .state) (g .id) (r .sound) (r .declared)) (omega (arith, r .grew .up)) (omega (arith, r .grew .up)) in
       let t-sound : Sound start P t = other-sound start id P (g .state) d (w .result (g .id) id) (w .formed (g .id) id) fits (w .other (g .id) id) (w .free (g .id) id)

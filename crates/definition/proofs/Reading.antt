@@ -14,7 +14,7 @@ use Rattle.definition.specs.Choice.{every}
 use Rattle.definition.specs.Instructions.{Instruction, optional, body, words, allWords}
 use Rattle.definition.specs.Reader.{layoutOf, formed, split, checked, joined, readOne, readAll, isWord, readModule}
 use Rattle.definition.specs.State.{State, boundOf, instructions, moduleWords}
-use Rattle.definition.specs.WellDeclared.{declaring}
+use Rattle.definition.specs.WellDeclared.{declaresId}
 use Rattle.definition.proofs.Sizes.{W, Under, under-append, Sized}
 use Rattle.definition.proofs.ByShape.{Formed}
 
@@ -23,13 +23,13 @@ pub record Readable (last : ℕ) (d : Instruction) : Type 0 where
   pub formed : Formed d
   pub fits : Sized last d
 
-split-body : (o : ℕ) (t r : Option ℕ) (xs : List ℕ) → split o (declaring t) (declaring r) (optional t ++ (optional r ++ xs)) ≡ some (record { opcode = o; type = t; result = r; operands = xs })
+split-body : (o : ℕ) (t r : Option ℕ) (xs : List ℕ) → split o (declaresId t) (declaresId r) (optional t ++ (optional r ++ xs)) ≡ some (record { opcode = o; type = t; result = r; operands = xs })
 split-body o none none xs = refl
 split-body o none (some r) xs = refl
 split-body o (some t) none xs = refl
 split-body o (some t) (some r) xs = refl
 
-one-checked : (i : Instruction) → Formed i → checked (split (i .opcode) (declaring (i .type)) (declaring (i .result)) (body i)) ≡ some i
+one-checked : (i : Instruction) → Formed i → checked (split (i .opcode) (declaresId (i .type)) (declaresId (i .result)) (body i)) ≡ some i
 one-checked i f = ap checked (split-body (i .opcode) (i .type) (i .result) (i .operands)) ∙ rw (f .operands) refl
 
 one-read : (i : Instruction) (c n o : ℕ) (rest : List ℕ) → Formed i → 1 ≤ c → length (body i) ≡ n → o ≡ i .opcode

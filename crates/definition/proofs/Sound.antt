@@ -13,7 +13,7 @@ use borrow.Author.Tests.{leb-true, leb-false}
 use Rattle.definition.specs.Instructions.{Instruction}
 use Rattle.definition.specs.Reader.{uses}
 use Rattle.definition.specs.Shapes.{Kind, Shape, Key, inner, sized, rankOf, typeOf, entry, shape}
-use Rattle.definition.specs.State.{Valued, Constants, State, same, occurrences, takeId, enter, withConstants, annotate, label, declare, declareWith, empty}
+use Rattle.definition.specs.State.{Valued, Constants, State, same, occurrences, takeId, enter, withConstants, annotate, label, declareAlone, declareWith, empty}
 use Rattle.definition.specs.WellDeclared.{times, once, Above, NoEqualTypes, EqualTypes, needs, needed, plainType, targets, marks}
 use Rattle.definition.proofs.Lists.{targets-append, snoc-cases, same-itself, upTo, upTo-in, upTo-out, upTo-suc, times-snoc, times-in, above-snoc, equal-types-snoc, listed-count, needed-snoc, table-bounded, table-unique}
 use Rattle.definition.proofs.Sizes.{Sized, sized-up, SmallKind}
@@ -321,7 +321,7 @@ module _ (start : ℕ) where
   -- an instruction that is no plain type, under an id that no shape has
   pub other-sound : (id : ℕ) (P : List (ℕ × ℕ)) (s : State) (d : Instruction) → d .result ≡ some id → Formed d → Sized (s .last) d → (T (plainType (d .opcode)) → ⊥) → needs d ≡ []
       → ((u : ℕ) → List·Memᴰ u (uses d) → 1 ≤ times u (s .declarations))
-      → Sound start ((9, id) ∷ P) s → Sound start P (declare d s)
+      → Sound start ((9, id) ∷ P) s → Sound start P (declareAlone d s)
   other-sound id P s d e fd fits other free used h =
       declare-sound 9 id P s [] d e fd fits free used (λ j m t. other (rw (← t .opcode) (t .plain))) (λ t. absurd (other t)) (λ l m q. absurd (omega (arith, facts l .shallow))) h
 

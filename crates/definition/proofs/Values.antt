@@ -19,9 +19,9 @@ use Rattle.definition.specs.Sheet.{Scalar, Vector, Matrix, Atomic, Point
 use Rattle.definition.specs.Sheet.{Value, Alias, ZeroValue, Compose, Splat}
 use Rattle.definition.specs.Tests.{Seen, innerTypes, expressionTypes, expressionConstants, initList}
 use Rattle.definition.specs.Shapes.{Kind, Key, storageClass, rank, bool, vector, pointer, bindingPointer, entry, shape}
-use Rattle.definition.specs.State.{Valued, Composite, composite, sameComposite, State, lookup, takeId, annotate, declare}
+use Rattle.definition.specs.State.{Valued, Composite, composite, sameComposite, State, lookup, takeId, annotate, declareAlone}
 use Rattle.definition.specs.Finding.{find, enterComposite, enterNull, compositeOf, orNewNull, nullOf}
-use Rattle.definition.specs.Rules.{innerAt, labelIf, annotateIf, block, noValue, valueAt, idsOf, kindOfScalar, GotValue, constantOf, enterValue, declareConstant, accessOf, decorateAccess, decorateBinding, isBound, needsWrapper, bindingBase, remapOf, PointerForm, direct, wrapped, remapped, remappedForm, pointerFormOf, wrap, decorateMember, pointerOf, blockBase, getsNull, GotInit, initFor, declareGlobal}
+use Rattle.definition.specs.Rules.{innerAt, labelIf, annotateIf, block, noValue, valueAt, idsOf, kindOfScalar, GotValue, constantOf, enterValue, declareConstant, accessOf, decorateAccess, decorateBinding, isBound, needsWrapper, bindingBase, remapOf, PointerForm, direct, inWrapper, remapped, remappedForm, pointerFormOf, wrap, decorateMember, pointerOf, blockBase, getsNull, GotInit, initFor, declareGlobal}
 use Rattle.definition.specs.WellDeclared.{times, needs}
 use Rattle.definition.proofs.Truth.{pick-for}
 use Rattle.definition.proofs.Lists.{snoc-cases, same-itself, lookup-in, getD-in}
@@ -173,7 +173,7 @@ module _ (start : ℕ) where
       go none e =
           let id = suc (s .last) in
           let d = constantNull t id in
-          let u = declare d (takeId s) in
+          let u = declareAlone d (takeId s) in
           let new : 1 ≤ times id (u .declarations) = just-declared id d (takeId s) refl in
           let hu : Sound start P u = other-sound start id P (takeId s) d refl (taken tt)
           (record { words = λ B p q. (omega (arith, low start P s t h old), (omega arith, tt)); short = lit< tt }) (λ t. t) refl (one-declared t (takeId s) old) (take-sound start 9 P s h) in
@@ -275,7 +275,7 @@ module _ (start : ℕ) where
       let f = find (entry t) b in
       let r : Found start Q b (entry t) f = find-found start (entry t) b Q (lit< tt, o) (entered-more (kb .grew) e) (kb .sound) in
       let d = typeStruct w (f .id ∷ []) in
-      let u = declare d (f .state) in
+      let u = declareAlone d (f .state) in
       let up : w ≤ f .state .last = omega (arith, kb .grew .up, r .grew .up) in
       let hu : Sound start P u = other-sound start w P (f .state) d refl (taken tt)
       (record { words = λ B p q. (omega arith, (omega (arith, low start Q (f .state) (f .id) (r .sound) (r .declared)), tt)); short = lit< tt }) (λ t. t) refl (one-declared (f .id) (f .state) (r .declared)) (r .sound) in
@@ -292,7 +292,7 @@ module _ (start : ℕ) where
   -- what a form asks
   abbrev GoodForm : List (Key × ℕ) → PointerForm → Type 0
   GoodForm types direct = Unit
-  GoodForm types wrapped = Unit
+  GoodForm types inWrapper = Unit
   GoodForm types (remapped b n) = Entered types b × (n ≤ W)
 
   form-good : (ts : List TypeEntry) (s : State) → Referring ts → Known (length ts) s → (t : ℕ) (o : Option ℕ) (n : Option ℕ) → BaseIn (innerAt ts t) o → SmallSize n → GoodForm (s .types) (remappedForm o n)
@@ -305,7 +305,7 @@ module _ (start : ℕ) where
   pointer-found direct ts g s P gs gw o o₁ o₂ e h =
       let r = find-found start (shape (pointer (g .type) (storageClass (g .space)))) s P o₁ (record { entered = λ x m. only-one m e; small = class-small (g .space) }) h in
       record { sound = r .sound; grew = r .grew; declared = r .declared }
-  pointer-found wrapped ts g s P gs gw o o₁ o₂ e h = wrap-found ts (g .type) (storageClass (g .space)) s P gs (class-small (g .space)) o e h
+  pointer-found inWrapper ts g s P gs gw o o₁ o₂ e h = wrap-found ts (g .type) (storageClass (g .space)) s P gs (class-small (g .space)) o e h
   pointer-found (remapped b n) ts g s P gs gw o o₁ o₂ e h =
       let r = find-found start (shape (bindingPointer b n (g .space) (g .access))) s P o₂ (record { entered = λ x m. only-one m (gw .0); small = (gw .1, class-small (g .space)) }) h in
       record { sound = r .sound; grew = r .grew; declared = r .declared }
@@ -336,7 +336,7 @@ module _ (start : ℕ) where
       record { sound = q .sound; grew = q .grew; declared = one-declared (z .id) (z .state) (q .declared) }
 
   -- the variable itself, after its pointer and its initializer
-  variable-sound : (id p class : ℕ) (i : Option ℕ) (s : State) → class ≤ W → id ≤ s .last → 1 ≤ times p (s .declarations) → AllDeclared (optional i) s → Sound start ((9, id) ∷ []) s → Sound start [] (declare (variable p id class i) s)
+  variable-sound : (id p class : ℕ) (i : Option ℕ) (s : State) → class ≤ W → id ≤ s .last → 1 ≤ times p (s .declarations) → AllDeclared (optional i) s → Sound start ((9, id) ∷ []) s → Sound start [] (declareAlone (variable p id class i) s)
   unfolding uses needs
   variable-sound id p class none s cw lid old v h =
       other-sound start id [] s (variable p id class none) refl (taken tt)
@@ -364,7 +364,7 @@ module _ (start : ℕ) where
       let r₃ = read-more w rd in
       let e₃ = r₃ .types .all (g .type) lt in
       let base = base-in (innerAt ts (g .type)) in
-      let gw : GoodForm (s₃ .types) (pointerFormOf n g) = pick-for (GoodForm (s₃ .types)) (needsWrapper ts g) wrapped _ tt
+      let gw : GoodForm (s₃ .types) (pointerFormOf n g) = pick-for (GoodForm (s₃ .types)) (needsWrapper ts g) inWrapper _ tt
       (pick-for (GoodForm (s₃ .types)) (isBound g) _ direct (form-good ts s₃ rf (r₃ .types) (g .type) (bindingBase (innerAt ts (g .type))) (remapOf (n .remaps) (g .group) (g .binding)) base (remap-small (n .remaps) (g .group) (g .binding) rm)) tt) in
       let p = pointerOf (pointerFormOf n g) ts g s₃ in
       let q = pointer-found (pointerFormOf n g) ts g s₃ P gs gw (lit< tt, tt) (lit< tt, tt) (lit< tt, tt) e₃ (k₃ .sound) in

@@ -9,10 +9,10 @@ use Rattle.definition.specs.Choice.{pick, among}
 use Rattle.definition.specs.Numbers.{CapabilityFloat64, CapabilityInt64, CapabilityInt16, CapabilityInt8, CapabilitySampled1D, CapabilityImage1D, CapabilitySampledCubeArray, CapabilityImageCubeArray, CapabilityStorageImageExtendedFormats, CapabilityRayQueryKHR, Dim1D, DimCube}
 use Rattle.definition.specs.Numbers.{ImageFormatRg32f, ImageFormatRg16f, ImageFormatR11fG11fB10f, ImageFormatR16f, ImageFormatRgba16, ImageFormatRgb10A2, ImageFormatRg16, ImageFormatRg8, ImageFormatR16, ImageFormatR8, ImageFormatRgba16Snorm, ImageFormatRg16Snorm, ImageFormatRg8Snorm, ImageFormatR16Snorm, ImageFormatR8Snorm, ImageFormatRg32i, ImageFormatRg16i, ImageFormatRg8i, ImageFormatR16i, ImageFormatR8i, ImageFormatRgb10a2ui, ImageFormatRg32ui, ImageFormatRg16ui, ImageFormatRg8ui, ImageFormatR16ui, ImageFormatR8ui}
 use Rattle.definition.specs.Literals.{Literal, f64, f32, u32, i32, boolean, sameLiteral, literalWords}
-use Rattle.definition.specs.Instructions.{Instruction, constantTrue, constantFalse, constant, constantComposite, constantNull}
+use Rattle.definition.specs.Instructions.{Instruction, constantTrue, constantFalse, constantOp, constantComposite, constantNull}
 use Rattle.definition.specs.Shapes.{Kind, Shape, Key, sameKey, inner, sized, rank, typeOf}
 use Rattle.definition.specs.Shapes.{sint, uint, float, bool, scalar, vector, matrix, pointer, valuePointer, image, sampler, accelerationStructure, rayQuery, bindingArray, bindingPointer, entry, shape}
-use Rattle.definition.specs.State.{Constants, Composite, composite, sameComposite, State, Got, got, takeId, enter, withConstants, declare, declareWith, lookup}
+use Rattle.definition.specs.State.{Constants, Composite, composite, sameComposite, State, Got, got, takeId, enter, withConstants, declareAlone, declareWith, lookup}
 
 -- ---- capabilities
 
@@ -66,10 +66,10 @@ literalKind (i32 n) = sint 4
 literalKind (boolean n) = bool
 
 abbrev pub literalOp : Literal → ℕ → ℕ → Instruction
-literalOp (f64 n) t id = constant t id (literalWords (f64 n))
-literalOp (f32 n) t id = constant t id (literalWords (f32 n))
-literalOp (u32 n) t id = constant t id (literalWords (u32 n))
-literalOp (i32 n) t id = constant t id (literalWords (i32 n))
+literalOp (f64 n) t id = constantOp t id (literalWords (f64 n))
+literalOp (f32 n) t id = constantOp t id (literalWords (f32 n))
+literalOp (u32 n) t id = constantOp t id (literalWords (u32 n))
+literalOp (i32 n) t id = constantOp t id (literalWords (i32 n))
 literalOp (boolean n) t id = pick (eqb n 1) (constantTrue t id) (constantFalse t id)
 
 abbrev pub enterLiteral : Literal → ℕ → Constants → Constants
@@ -86,7 +86,7 @@ abbrev pub newValue : (Key → State → Got) → Key → (ℕ → ℕ → Instr
 newValue find k write note s =
     let id = suc (s .last) in
     let g = find k (takeId s) in
-    let t = declare (write (g .id) id) (g .state) in
+    let t = declareAlone (write (g .id) id) (g .state) in
     got id (withConstants (note id (t .constants)) t)
 
 abbrev pub orNewValue : Option ℕ → (Key → State → Got) → Key → (ℕ → ℕ → Instruction) → (ℕ → Constants → Constants) → State → Got
@@ -142,7 +142,7 @@ abbrev pub orNewNull : Option ℕ → ℕ → State → Got
 orNewNull (some id) t s = got id s
 orNewNull none t s =
     let id = suc (s .last) in
-    let u = declare (constantNull t id) (takeId s) in
+    let u = declareAlone (constantNull t id) (takeId s) in
     got id (withConstants (enterNull t id (u .constants)) u)
 
 unfoldable pub nullOf : ℕ → State → Got

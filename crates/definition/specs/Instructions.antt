@@ -120,8 +120,8 @@ abbrev pub constantFalse : ℕ → ℕ → Instruction
 constantFalse type id = valueOp OpConstantFalse type id []
 
 -- the value's words, the lowest first
-abbrev pub constant : ℕ → ℕ → List ℕ → Instruction
-constant type id value = valueOp OpConstant type id value
+abbrev pub constantOp : ℕ → ℕ → List ℕ → Instruction
+constantOp type id value = valueOp OpConstant type id value
 
 abbrev pub constantComposite : ℕ → ℕ → List ℕ → Instruction
 constantComposite type id parts = valueOp OpConstantComposite type id parts

@@ -16,7 +16,7 @@ use Rattle.definition.specs.Sheet.{Value, Alias, ZeroValue, Compose, Spl
 use Rattle.definition.specs.Tests.{Seen}
 use Rattle.definition.specs.Shapes.{Kind, Key, shapeOf, storageClass, kindOf}
 use Rattle.definition.specs.Shapes.{Shape, bool, scalar, vector, pointer, bindingPointer, entry, shape}
-use Rattle.definition.specs.State.{Valued, State, Got, got, takeId, enter, withConstants, annotate, label, declare, idOf}
+use Rattle.definition.specs.State.{Valued, State, Got, got, takeId, enter, withConstants, annotate, label, declareAlone, idOf}
 use Rattle.definition.specs.Finding.{literalKind, find, literal, compositeOf, nullOf}
 
 -- ---- the types read so far
@@ -131,14 +131,14 @@ block id = decorate id DecorationBlock []
 
 -- the base is found; a size is a literal, found after it; size 0 is dynamic
 abbrev pub declareArray : ℕ → ℕ → Got → State
-declareArray zero id base = declare (typeRuntimeArray id (base .id)) (base .state)
-declareArray (suc n) id base = let c = literal (u32 (suc n)) (base .state) in declare (typeArray id (base .id) (c .id)) (c .state)
+declareArray zero id base = declareAlone (typeRuntimeArray id (base .id)) (base .state)
+declareArray (suc n) id base = let c = literal (u32 (suc n)) (base .state) in declareAlone (typeArray id (base .id) (c .id)) (c .state)
 
 -- "A struct with a dynamic array among its members has Block after them."
 abbrev pub declareStruct : Bool → List TypeEntry → ℕ → List Member → State → State
 declareStruct debug ts id ms s =
     let r = declareMembers debug ts id 0 ms s in
-    declare (typeStruct id (r .ids)) (annotateIf (anyDynamic ts ms) (block id) (r .state))
+    declareAlone (typeStruct id (r .ids)) (annotateIf (anyDynamic ts ms) (block id) (r .state))
 
 -- "An Array entry has ArrayStride with its stride, written when its id is taken; a BindingArray has none."
 abbrev pub declareAggregate : Bool → List TypeEntry → TypeInner → ℕ → State → State
@@ -306,7 +306,7 @@ remapOf (m ∷ ms) g b = pick (eqb (m .group) g && eqb (m .binding) b) (some (m 
 -- the form of a global's pointer: to its type as it is, to a wrapper, or to a remapped array
 pub data PointerForm : Type 0 where
   direct : PointerForm
-  wrapped : PointerForm
+  inWrapper : PointerForm
   remapped : ℕ → ℕ → PointerForm
 
 -- "A bound global of BindingArray type whose group and binding are remapped uses a shared pointer shape .. on other globals a
@@ -318,7 +318,7 @@ remappedForm (some b) (some n) = remapped b n
 
 abbrev pub pointerFormOf : Seen → Global → PointerForm
 pointerFormOf n g =
-    pick (needsWrapper (n .types) g) wrapped
+    pick (needsWrapper (n .types) g) inWrapper
     (pick (isBound g) (remappedForm (bindingBase (innerAt (n .types) (g .type))) (remapOf (n .remaps) (g .group) (g .binding))) direct)
 
 -- "A wrapper's id is taken before its pointer's", "A wrapper has Block, then its member's decorations"
@@ -326,12 +326,12 @@ abbrev pub wrap : List TypeEntry → ℕ → ℕ → State → Got
 wrap ts t class s =
     let w = suc (s .last) in
     let g = find (entry t) (decorateMember false ts w 0 (record { type = t; offset = 0; name = none }) (annotate (block w) (takeId s))) in
-    let u = declare (typeStruct w (g .id ∷ [])) (g .state) in
-    got (suc (u .last)) (declare (typePointer (suc (u .last)) class w) (takeId u))
+    let u = declareAlone (typeStruct w (g .id ∷ [])) (g .state) in
+    got (suc (u .last)) (declareAlone (typePointer (suc (u .last)) class w) (takeId u))
 
 abbrev pub pointerOf : PointerForm → List TypeEntry → Global → State → Got
 pointerOf direct ts g s = find (shape (pointer (g .type) (storageClass (g .space)))) s
-pointerOf wrapped ts g s = wrap ts (g .type) (storageClass (g .space)) s
+pointerOf inWrapper ts g s = wrap ts (g .type) (storageClass (g .space)) s
 pointerOf (remapped b n) ts g s = find (shape (bindingPointer b n (g .space) (g .access))) s
 
 -- "each Storage global of BindingArray type puts Block on the base"
@@ -361,7 +361,7 @@ declareGlobal o n g s =
     let p = pointerOf (pointerFormOf n g) ts g a in
     let b = blockBase (eqb (g .space) storageSpace) (bindingBase (innerAt ts (g .type))) (p .state) in
     let z = initFor (g .init) (getsNull o g) (g .type) b in
-    declare (variable (p .id) id (storageClass (g .space)) (z .init)) (z .state)
+    declareAlone (variable (p .id) id (storageClass (g .space)) (z .init)) (z .state)
 
 -- ---- one record's entry, given what was read before it
 

@@ -97,8 +97,8 @@ listed (x ∷ xs) cs = listed xs (listOne (occurrences x cs) x cs)
 abbrev pub declareWith : List ℕ → Instruction → State → State
 declareWith cs i s = record { last = s .last; types = s .types; constants = s .constants; capabilities = listed cs (s .capabilities); names = s .names; annotations = s .annotations; declarations = s .declarations ++ i ∷ [] }
 
-abbrev pub declare : Instruction → State → State
-declare i s = declareWith [] i s
+abbrev pub declareAlone : Instruction → State → State
+declareAlone i s = declareWith [] i s
 
 -- ---- what is looked up in it
 

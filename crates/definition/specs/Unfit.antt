@@ -21,25 +21,25 @@ use Rattle.definition.specs.Rules.{innerAt, valueAt, isBound}
 -- is not the place's."
 
 -- the places of a composite's parts: so many of one type, or one for each member, or none
-pub data Places : Type 0 where
-  each : ℕ → Key → Places
-  members : List ℕ → Places
-  nowhere : Places
+pub data PartPlaces : Type 0 where
+  each : ℕ → Key → PartPlaces
+  members : List ℕ → PartPlaces
+  nowhere : PartPlaces
 
-abbrev pub placesOf : TypeInner → Places
-placesOf (Scalar k w) = nowhere
-placesOf (Vector n k w) = each n (shape (scalar (kindOf k w)))
-placesOf (Matrix c r w) = each c (shape (vector r (float w)))
-placesOf (Atomic k w) = nowhere
-placesOf (Pointer b s a) = nowhere
-placesOf (ValuePointer n k w s a) = nowhere
-placesOf (Array b n d) = pick (ltb 0 n) (each n (entry b)) nowhere
-placesOf (Struct n ms) = members (memberTypes ms)
-placesOf (Image d a c x y) = nowhere
-placesOf (Sampler c) = nowhere
-placesOf AccelerationStructure = nowhere
-placesOf RayQuery = nowhere
-placesOf (BindingArray b n) = nowhere
+abbrev pub partPlacesOf : TypeInner → PartPlaces
+partPlacesOf (Scalar k w) = nowhere
+partPlacesOf (Vector n k w) = each n (shape (scalar (kindOf k w)))
+partPlacesOf (Matrix c r w) = each c (shape (vector r (float w)))
+partPlacesOf (Atomic k w) = nowhere
+partPlacesOf (Pointer b s a) = nowhere
+partPlacesOf (ValuePointer n k w s a) = nowhere
+partPlacesOf (Array b n d) = pick (ltb 0 n) (each n (entry b)) nowhere
+partPlacesOf (Struct n ms) = members (memberTypes ms)
+partPlacesOf (Image d a c x y) = nowhere
+partPlacesOf (Sampler c) = nowhere
+partPlacesOf AccelerationStructure = nowhere
+partPlacesOf RayQuery = nowhere
+partPlacesOf (BindingArray b n) = nowhere
 
 -- a constant is of the type with a key: their type ids are equal
 abbrev pub ofType : State → Key → ℕ → Bool
@@ -51,7 +51,7 @@ membersFit s [] (c ∷ cs) = false
 membersFit s (t ∷ ts) [] = false
 membersFit s (t ∷ ts) (c ∷ cs) = ofType s (entry t) c && membersFit s ts cs
 
-abbrev pub partsFit : State → Places → List ℕ → Bool
+abbrev pub partsFit : State → PartPlaces → List ℕ → Bool
 partsFit s (each n k) cs = eqb (length cs) n && every (ofType s k) cs
 partsFit s (members ts) cs = membersFit s ts cs
 partsFit s nowhere cs = false
@@ -63,7 +63,7 @@ unfoldable pub constantFits : List TypeEntry → State → Expression → Bool
 constantFits ts s (Value l) = true
 constantFits ts s (Alias c) = true
 constantFits ts s (ZeroValue t) = zeroable ts t
-constantFits ts s (Compose t cs) = partsFit s (placesOf (innerAt ts t)) cs
+constantFits ts s (Compose t cs) = partsFit s (partPlacesOf (innerAt ts t)) cs
 constantFits ts s (Splat n c) = present (valueAt s c .kind)
 
 -- ---- "A global of Function space, or of Pointer or ValuePointer type, or bound outside Uniform, Storage and Handle, or with an

@@ -29,28 +29,28 @@ abbrev pub UTF8-tail : Range
 UTF8-tail = range 0x80 0xBF
 
 -- an alternative of UTF8-char: the range of its first byte, and those of the bytes that follow
-pub record Row : Type 0 where
+pub record Utf8Row : Type 0 where
   pub lead : Range
   pub follow : List Range
 
-abbrev pub row : ℕ → ℕ → List Range → Row
-row l h rs = record { lead = range l h; follow = rs }
+abbrev pub utf8Row : ℕ → ℕ → List Range → Utf8Row
+utf8Row l h rs = record { lead = range l h; follow = rs }
 
-abbrev pub UTF8-char : List Row
+abbrev pub UTF8-char : List Utf8Row
 UTF8-char =
-    row 0x00 0x7F []
-    ∷ row 0xC2 0xDF (UTF8-tail ∷ [])
-    ∷ row 0xE0 0xE0 (range 0xA0 0xBF ∷ UTF8-tail ∷ [])
-    ∷ row 0xE1 0xEC (UTF8-tail ∷ UTF8-tail ∷ [])
-    ∷ row 0xED 0xED (range 0x80 0x9F ∷ UTF8-tail ∷ [])
-    ∷ row 0xEE 0xEF (UTF8-tail ∷ UTF8-tail ∷ [])
-    ∷ row 0xF0 0xF0 (range 0x90 0xBF ∷ UTF8-tail ∷ UTF8-tail ∷ [])
-    ∷ row 0xF1 0xF3 (UTF8-tail ∷ UTF8-tail ∷ UTF8-tail ∷ [])
-    ∷ row 0xF4 0xF4 (range 0x80 0x8F ∷ UTF8-tail ∷ UTF8-tail ∷ [])
+    utf8Row 0x00 0x7F []
+    ∷ utf8Row 0xC2 0xDF (UTF8-tail ∷ [])
+    ∷ utf8Row 0xE0 0xE0 (range 0xA0 0xBF ∷ UTF8-tail ∷ [])
+    ∷ utf8Row 0xE1 0xEC (UTF8-tail ∷ UTF8-tail ∷ [])
+    ∷ utf8Row 0xED 0xED (range 0x80 0x9F ∷ UTF8-tail ∷ [])
+    ∷ utf8Row 0xEE 0xEF (UTF8-tail ∷ UTF8-tail ∷ [])
+    ∷ utf8Row 0xF0 0xF0 (range 0x90 0xBF ∷ UTF8-tail ∷ UTF8-tail ∷ [])
+    ∷ utf8Row 0xF1 0xF3 (UTF8-tail ∷ UTF8-tail ∷ UTF8-tail ∷ [])
+    ∷ utf8Row 0xF4 0xF4 (range 0x80 0x8F ∷ UTF8-tail ∷ UTF8-tail ∷ [])
     ∷ []
 
 -- what must follow a first byte: of the one alternative that it can begin, or of none
-abbrev pub followOf : List Row → ℕ → Option (List Range)
+abbrev pub followOf : List Utf8Row → ℕ → Option (List Range)
 followOf [] b = none
 followOf (r ∷ rs) b = pick (inRange (r .lead) b) (some (r .follow)) (followOf rs b)
 

@@ -32,14 +32,14 @@ unfoldable pub times : ℕ → List Instruction → ℕ
 times i [] = 0
 times i (x ∷ xs) = once (x .result) i + times i xs
 
-abbrev pub declaring : Option ℕ → Bool
-declaring none = false
-declaring (some r) = true
+abbrev pub declaresId : Option ℕ → Bool
+declaresId none = false
+declaresId (some r) = true
 
 -- ---- ".. and uses its other id operands, result type included": every declaration uses only ids declared above it
 
 abbrev pub UsesDeclared : List Instruction → Instruction → Type 0
-UsesDeclared above i = T (declaring (i .result)) → (u : ℕ) → List·Memᴰ u (uses i) → 1 ≤ times u above
+UsesDeclared above i = T (declaresId (i .result)) → (u : ℕ) → List·Memᴰ u (uses i) → 1 ≤ times u above
 
 abbrev pub Above : List Instruction → List Instruction → Type 0
 Above above [] = Unit

@@ -9,7 +9,7 @@ use lib.Dec.{eqb, leb}
 use Rattle.definition.specs.Sheet.{Global}
 use Rattle.definition.specs.Tests.{bindingFits}
 use Rattle.definition.proofs.Truth.{both}
-use Rattle.entries.specs.Types.{Taken}
+use Rattle.entries.specs.Types.{TypeTaken}
 use Rattle.entries.specs.declared.types.TypeInner.{TypeInner}
 
 -- ---- a global's binding
@@ -27,5 +27,5 @@ module _ (g : Global) (h : bindingFits g ≡ true) where
 
 -- ---- the tag and the name's end that were read
 
-pub taken : (t k : ℕ) (b : List ℕ) (n m : ℕ) (i : TypeInner) → t ≡ k → n ≡ m → Taken k b n i → Taken t b m i
+pub taken : (t k : ℕ) (b : List ℕ) (n m : ℕ) (i : TypeInner) → t ≡ k → n ≡ m → TypeTaken k b n i → TypeTaken t b m i
 taken t k b n m i e q h = rw (e, ← q) h

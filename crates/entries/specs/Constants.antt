@@ -18,5 +18,5 @@ expressionOf b (Compose t n) = Defined.Compose t (u16sAt b 4 n)
 expressionOf b (Splat n c) = Defined.Splat n c
 
 -- what was taken for the constant of tag t is that constant, if its fields pass test 10
-abbrev pub Taken : ℕ → List ℕ → Expression → Type 0
-Taken t b e = expressionFits (constantFields t b .value) ≡ true → expressionOf b e ≡ constantFields t b .value
+abbrev pub ConstantTaken : ℕ → List ℕ → Expression → Type 0
+ConstantTaken t b e = expressionFits (constantFields t b .value) ≡ true → expressionOf b e ≡ constantFields t b .value

@@ -17,9 +17,9 @@ use Rattle.entries.specs.declared.globals.Remap.{Remap}
 use Rattle.kinds.specs.Numbers.{spaceNumber, spaceAccess}
 use Rattle.definition.specs.Sheet as Defined
 
-abbrev pub constantOf : Init → Option ℕ
-constantOf Missing = none
-constantOf (Constant c) = some c
+abbrev pub initConstant : Init → Option ℕ
+initConstant Missing = none
+initConstant (Constant c) = some c
 
 -- "bound 0 or 1, group, binding (32 bits each, 0 if unbound)"
 abbrev pub boundNumber : Binding → ℕ
@@ -50,16 +50,16 @@ globalOf b g = record {
   bound = boundNumber (g .binding);
   group = groupNumber (g .binding);
   binding = bindingNumber (g .binding);
-  init = constantOf (g .init);
+  init = initConstant (g .init);
 }
 
-abbrev pub remapOf : Remap → Defined.Remap
-remapOf m = record { group = m .group; binding = m .binding; size = m .size }
+abbrev pub remapAs : Remap → Defined.Remap
+remapAs m = record { group = m .group; binding = m .binding; size = m .size }
 
 -- what was taken for the global of body b is that global, if its fields pass test 10
-abbrev pub Taken : List ℕ → GlobalVariable → Type 0
-Taken b g = valuesFit (global (globalFields b (nameEnd b 0) .value)) ≡ true → globalOf b g ≡ globalFields b (nameEnd b 0) .value
+abbrev pub GlobalTaken : List ℕ → GlobalVariable → Type 0
+GlobalTaken b g = valuesFit (global (globalFields b (nameEnd b 0) .value)) ≡ true → globalOf b g ≡ globalFields b (nameEnd b 0) .value
 
 -- the same of the global whose record stands at a place of the sheet
-abbrev pub TakenFrom : List ℕ → ℕ → GlobalVariable → Type 0
-TakenFrom s at g = Taken (recordFrom s at .body) g
+abbrev pub GlobalTakenFrom : List ℕ → ℕ → GlobalVariable → Type 0
+GlobalTakenFrom s at g = GlobalTaken (recordFrom s at .body) g

@@ -27,5 +27,5 @@ innerOf b n RayQuery = Defined.RayQuery
 innerOf b n (BindingArray t z) = Defined.BindingArray t z
 
 -- what was taken for the type of tag t is that type, if its fields pass test 10
-abbrev pub Taken : ℕ → List ℕ → ℕ → TypeInner → Type 0
-Taken t b n i = innerFits (typeFields t b n .value) ≡ true → innerOf b n i ≡ typeFields t b n .value
+abbrev pub TypeTaken : ℕ → List ℕ → ℕ → TypeInner → Type 0
+TypeTaken t b n i = innerFits (typeFields t b n .value) ≡ true → innerOf b n i ≡ typeFields t b n .value

@@ -5,7 +5,7 @@ ghost use mathlib.Core.Bool.{true};
 ghost use Rattle.definition.specs.Sheet.{literalFields};
 ghost use Rattle.definition.specs.Tests.{literalFits};
 ghost use Rattle.literals.specs.Forms.{literalOf};
-ghost use Rattle.entries.specs.Constants.{Taken};
+ghost use Rattle.entries.specs.Constants.{ConstantTaken};
 
 // A Constant is document 01's Alias. Types and constants by their indexes.
 pub enum Expression {
@@ -30,7 +30,7 @@ fn literal_of(b: &[u8]) -> Literal
 }
 
 fn splat(b: &[u8]) -> Expression
-    ensures { λ r. ⌜ Taken 68 (now (b .entry)) r ⌝ }
+    ensures { λ r. ⌜ ConstantTaken 68 (now (b .entry)) r ⌝ }
 {
     Expression::Splat {
         size: fields::u8_at(b, 0),
@@ -39,18 +39,18 @@ fn splat(b: &[u8]) -> Expression
 }
 
 // The constant of tag t and body b; of what is no constant's tag a Splat, as in the definition.
-pub fn expression_of(t: u8, b: &[u8]) -> Expression
-    ensures { λ r. ⌜ Taken t (now (b .entry)) r ⌝ }
+pub fn expression_of(tag: u8, body: &[u8]) -> Expression
+    ensures { λ r. ⌜ ConstantTaken tag (now (body .entry)) r ⌝ }
 {
-    match t {
-        64 => Expression::Literal(literal_of(b)),
-        65 => Expression::Constant(fields::u16_at(b, 0)),
-        66 => Expression::ZeroValue(fields::u16_at(b, 0)),
+    match tag {
+        64 => Expression::Literal(literal_of(body)),
+        65 => Expression::Constant(fields::u16_at(body, 0)),
+        66 => Expression::ZeroValue(fields::u16_at(body, 0)),
         67 => Expression::Compose {
-            ty: fields::u16_at(b, 0),
-            count: fields::u16_at(b, 2),
+            ty: fields::u16_at(body, 0),
+            count: fields::u16_at(body, 2),
         },
-        68 => splat(b),
-        _ => splat(b),
+        68 => splat(body),
+        _ => splat(body),
     }
 }

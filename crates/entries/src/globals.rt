@@ -8,7 +8,7 @@ ghost use lib.ListN.{length, getD};
 ghost use Rattle.definition.specs.Sheet.{globalFields, remapFields, initOf};
 ghost use Rattle.definition.specs.Tests.{bindingFits};
 ghost use Rattle.records.specs.Places.{remapFrom};
-ghost use Rattle.entries.specs.Globals.{remapOf, constantOf, Bindings, Taken, TakenFrom};
+ghost use Rattle.entries.specs.Globals.{remapAs, initConstant, Bindings, GlobalTaken, GlobalTakenFrom};
 
 pub struct ResourceBinding {
     pub group: u32,
@@ -40,7 +40,7 @@ pub struct Remap {
 }
 
 fn init_of(i: u16) -> Init
-    ensures { λ r. ⌜ constantOf r ≡ initOf i ⌝ }
+    ensures { λ r. ⌜ initConstant r ≡ initOf i ⌝ }
 {
     if i == 65535 {
         return Init::Missing;
@@ -63,46 +63,46 @@ fn binding_of(b: &[u8], n: usize) -> Binding
 }
 
 // Global i, for Wrapped, which asks once all records are read.
-pub fn global_at(s: &[u8], globals: &[u32], i: usize) -> GlobalVariable
-    requires { ⌜ i < length (now globals) ⌝ }
-    ensures { λ r. ⌜ TakenFrom (now (s .entry)) (getD (now (globals .entry)) i 0) r ⌝ }
+pub fn global_at(sheet: &[u8], globals: &[u32], index: usize) -> GlobalVariable
+    requires { ⌜ index < length (now globals) ⌝ }
+    ensures { λ r. ⌜ GlobalTakenFrom (now (sheet .entry)) (getD (now (globals .entry)) index 0) r ⌝ }
 {
-    let rest = crate::entry_at(s, globals, i);
+    let rest = crate::entry_at(sheet, globals, index);
     global_of(records::body_of(rest))
 }
 
 // The global of body b.
-pub fn global_of(b: &[u8]) -> GlobalVariable
-    ensures { λ r. ⌜ Taken (now (b .entry)) r ⌝ }
+pub fn global_of(body: &[u8]) -> GlobalVariable
+    ensures { λ r. ⌜ GlobalTaken (now (body .entry)) r ⌝ }
 {
-    let n = fields::name_end(b, 0);
-    let space = space_of(fields::u8_at(b, n + 2), fields::u8_at(b, n + 3));
-    let binding = binding_of(b, n);
-    let init = init_of(fields::u16_at(b, n + 13));
+    let n = fields::name_end(body, 0);
+    let space = space_of(fields::u8_at(body, n + 2), fields::u8_at(body, n + 3));
+    let binding = binding_of(body, n);
+    let init = init_of(fields::u16_at(body, n + 13));
     GlobalVariable {
         space,
         binding,
-        ty: fields::u16_at(b, n),
+        ty: fields::u16_at(body, n),
         init,
     }
 }
 
 // Remap i: globals look through the remaps at each binding, so only their places are kept.
-pub fn remap_at(s: &[u8], remaps: &[u32], i: usize) -> Remap
-    requires { ⌜ i < length (now remaps) ⌝ }
-    ensures { λ r. ⌜ remapOf r ≡ remapFrom (now (s .entry)) (getD (now (remaps .entry)) i 0) ⌝ }
+pub fn remap_at(sheet: &[u8], remaps: &[u32], index: usize) -> Remap
+    requires { ⌜ index < length (now remaps) ⌝ }
+    ensures { λ r. ⌜ remapAs r ≡ remapFrom (now (sheet .entry)) (getD (now (remaps .entry)) index 0) ⌝ }
 {
-    let rest = crate::entry_at(s, remaps, i);
+    let rest = crate::entry_at(sheet, remaps, index);
     remap_of(records::body_of(rest))
 }
 
 // The remap of body b.
-pub fn remap_of(b: &[u8]) -> Remap
-    ensures { λ r. ⌜ remapOf r ≡ remapFields (now (b .entry)) .value ⌝ }
+pub fn remap_of(body: &[u8]) -> Remap
+    ensures { λ r. ⌜ remapAs r ≡ remapFields (now (body .entry)) .value ⌝ }
 {
     Remap {
-        group: fields::u32_at(b, 0),
-        binding: fields::u32_at(b, 4),
-        size: fields::u32_at(b, 8),
+        group: fields::u32_at(body, 0),
+        binding: fields::u32_at(body, 4),
+        size: fields::u32_at(body, 8),
     }
 }

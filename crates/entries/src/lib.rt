@@ -14,9 +14,9 @@ ghost use Prim.Native.Nat.{_<_};
 ghost use lib.ListN.{length, drop, getD};
 
 // The sheet from the i-th place on: the record of the i-th entry of a kind, whose places are these.
-pub fn entry_at<'a>(s: &'a [u8], places: &[u32], i: usize) -> &'a [u8]
-    requires { ⌜ i < length (now places) ⌝ }
-    ensures { λ r. ⌜ now r ≡ drop (getD (now (places .entry)) i 0) (now (s .entry)) ⌝ }
+pub fn entry_at<'a>(sheet: &'a [u8], places: &[u32], index: usize) -> &'a [u8]
+    requires { ⌜ index < length (now places) ⌝ }
+    ensures { λ r. ⌜ now r ≡ drop (getD (now (places .entry)) index 0) (now (sheet .entry)) ⌝ }
 {
-    records::rest_at(s, places[i] as usize)
+    records::rest_at(sheet, places[index] as usize)
 }

@@ -9,7 +9,7 @@ use kinds::kind_of;
 use kinds::space_of;
 ghost use Prim.Native.Nat.{_<_};
 ghost use Rattle.definition.specs.Bytes.{nameEnd};
-ghost use Rattle.entries.specs.Types.{Taken};
+ghost use Rattle.entries.specs.Types.{TypeTaken};
 
 // Widths in bytes; a base is an index within the types; a size of 0 is dynamic or, of a value pointer, none.
 pub enum TypeInner {
@@ -67,31 +67,31 @@ pub enum TypeInner {
 }
 
 // The fields of a type of tag t and body b; of what is no type's tag those of the last, as in the definition.
-pub fn inner_of(t: u8, b: &[u8]) -> TypeInner
-    ensures { λ r. ⌜ Taken t (now (b .entry)) (nameEnd (now (b .entry)) 0) r ⌝ }
+pub fn inner_of(tag: u8, body: &[u8]) -> TypeInner
+    ensures { λ r. ⌜ TypeTaken tag (now (body .entry)) (nameEnd (now (body .entry)) 0) r ⌝ }
 {
-    let n = fields::name_end(b, 0);
-    match t {
-        16 => scalar(b, n),
-        17 => vector(b, n),
-        18 => matrix(b, n),
-        19 => atomic(b, n),
-        20 => pointer(b, n),
-        21 => value_pointer(b, n),
-        22 => array(b, n),
-        23 => structure(b, n),
-        24 => image(b, n),
-        25 => sampler(b, n),
+    let n = fields::name_end(body, 0);
+    match tag {
+        16 => scalar(body, n),
+        17 => vector(body, n),
+        18 => matrix(body, n),
+        19 => atomic(body, n),
+        20 => pointer(body, n),
+        21 => value_pointer(body, n),
+        22 => array(body, n),
+        23 => structure(body, n),
+        24 => image(body, n),
+        25 => sampler(body, n),
         26 => TypeInner::AccelerationStructure,
         27 => TypeInner::RayQuery,
-        28 => binding_array(b, n),
-        _ => binding_array(b, n),
+        28 => binding_array(body, n),
+        _ => binding_array(body, n),
     }
 }
 
 fn scalar(b: &[u8], n: usize) -> TypeInner
     requires { ⌜ n < 300 ⌝ }
-    ensures { λ r. ⌜ Taken 16 (now (b .entry)) n r ⌝ }
+    ensures { λ r. ⌜ TypeTaken 16 (now (b .entry)) n r ⌝ }
 {
     TypeInner::Scalar {
         kind: kind_of(fields::u8_at(b, n)),
@@ -101,7 +101,7 @@ fn scalar(b: &[u8], n: usize) -> TypeInner
 
 fn vector(b: &[u8], n: usize) -> TypeInner
     requires { ⌜ n < 300 ⌝ }
-    ensures { λ r. ⌜ Taken 17 (now (b .entry)) n r ⌝ }
+    ensures { λ r. ⌜ TypeTaken 17 (now (b .entry)) n r ⌝ }
 {
     TypeInner::Vector {
         size: fields::u8_at(b, n),
@@ -112,7 +112,7 @@ fn vector(b: &[u8], n: usize) -> TypeInner
 
 fn matrix(b: &[u8], n: usize) -> TypeInner
     requires { ⌜ n < 300 ⌝ }
-    ensures { λ r. ⌜ Taken 18 (now (b .entry)) n r ⌝ }
+    ensures { λ r. ⌜ TypeTaken 18 (now (b .entry)) n r ⌝ }
 {
     TypeInner::Matrix {
         columns: fields::u8_at(b, n),
@@ -123,7 +123,7 @@ fn matrix(b: &[u8], n: usize) -> TypeInner
 
 fn atomic(b: &[u8], n: usize) -> TypeInner
     requires { ⌜ n < 300 ⌝ }
-    ensures { λ r. ⌜ Taken 19 (now (b .entry)) n r ⌝ }
+    ensures { λ r. ⌜ TypeTaken 19 (now (b .entry)) n r ⌝ }
 {
     TypeInner::Atomic {
         kind: kind_of(fields::u8_at(b, n)),
@@ -133,7 +133,7 @@ fn atomic(b: &[u8], n: usize) -> TypeInner
 
 fn pointer(b: &[u8], n: usize) -> TypeInner
     requires { ⌜ n < 300 ⌝ }
-    ensures { λ r. ⌜ Taken 20 (now (b .entry)) n r ⌝ }
+    ensures { λ r. ⌜ TypeTaken 20 (now (b .entry)) n r ⌝ }
 {
     TypeInner::Pointer {
         base: fields::u16_at(b, n),
@@ -143,7 +143,7 @@ fn pointer(b: &[u8], n: usize) -> TypeInner
 
 fn value_pointer(b: &[u8], n: usize) -> TypeInner
     requires { ⌜ n < 300 ⌝ }
-    ensures { λ r. ⌜ Taken 21 (now (b .entry)) n r ⌝ }
+    ensures { λ r. ⌜ TypeTaken 21 (now (b .entry)) n r ⌝ }
 {
     TypeInner::ValuePointer {
         size: fields::u8_at(b, n),
@@ -155,7 +155,7 @@ fn value_pointer(b: &[u8], n: usize) -> TypeInner
 
 fn array(b: &[u8], n: usize) -> TypeInner
     requires { ⌜ n < 300 ⌝ }
-    ensures { λ r. ⌜ Taken 22 (now (b .entry)) n r ⌝ }
+    ensures { λ r. ⌜ TypeTaken 22 (now (b .entry)) n r ⌝ }
 {
     TypeInner::Array {
         base: fields::u16_at(b, n),
@@ -166,7 +166,7 @@ fn array(b: &[u8], n: usize) -> TypeInner
 
 fn structure(b: &[u8], n: usize) -> TypeInner
     requires { ⌜ n < 300 ⌝ }
-    ensures { λ r. ⌜ Taken 23 (now (b .entry)) n r ⌝ }
+    ensures { λ r. ⌜ TypeTaken 23 (now (b .entry)) n r ⌝ }
 {
     TypeInner::Struct {
         span: fields::u32_at(b, n),
@@ -176,7 +176,7 @@ fn structure(b: &[u8], n: usize) -> TypeInner
 
 fn image(b: &[u8], n: usize) -> TypeInner
     requires { ⌜ n < 300 ⌝ }
-    ensures { λ r. ⌜ Taken 24 (now (b .entry)) n r ⌝ }
+    ensures { λ r. ⌜ TypeTaken 24 (now (b .entry)) n r ⌝ }
 {
     let class = class_of(
         fields::u8_at(b, n + 2),
@@ -191,7 +191,7 @@ fn image(b: &[u8], n: usize) -> TypeInner
 }
 
 fn sampler(b: &[u8], n: usize) -> TypeInner
-    ensures { λ r. ⌜ Taken 25 (now (b .entry)) n r ⌝ }
+    ensures { λ r. ⌜ TypeTaken 25 (now (b .entry)) n r ⌝ }
 {
     TypeInner::Sampler {
         comparison: fields::u8_at(b, n) == 1,
@@ -200,7 +200,7 @@ fn sampler(b: &[u8], n: usize) -> TypeInner
 
 fn binding_array(b: &[u8], n: usize) -> TypeInner
     requires { ⌜ n < 300 ⌝ }
-    ensures { λ r. ⌜ Taken 28 (now (b .entry)) n r ⌝ }
+    ensures { λ r. ⌜ TypeTaken 28 (now (b .entry)) n r ⌝ }
 {
     TypeInner::BindingArray {
         base: fields::u16_at(b, n),

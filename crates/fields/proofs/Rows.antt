@@ -9,7 +9,7 @@ use borrow.Author.Tests.{le-leb, lt-leb, ltb-true}
 use lib.Dec.{T, leb, ltb, leb→le}
 use lib.Ieee.Fits.{and-l, and-r}
 use Rattle.definition.specs.Choice.{within, pick, every}
-use Rattle.definition.specs.Utf8.{Range, Row, UTF8-char, followOf, inRange}
+use Rattle.definition.specs.Utf8.{Range, Utf8Row, UTF8-char, followOf, inRange}
 
 pub inside : (l h b : ℕ) → l ≤ b → b ≤ h → within l h b ≡ true
 inside l h b p q = simp (le-leb l b p, le-leb b h q)
@@ -42,14 +42,14 @@ module _ (m n b : ℕ) (p : m ≤ b) (q : b ≤ n) where
       let h : n ≤ r .high = leb→le n (r .high) (and-r (leb (r .low) m) (leb n (r .high)) w) in
       simp (inside (r .low) (r .high) b (omega arith) (omega arith), inside (r .low) (r .high) m l (omega arith))
 
-  each : (rs : List Row) → T (every (λ (r : Row). whole m n (r .lead)) rs) → followOf rs b ≡ followOf rs m
+  each : (rs : List Utf8Row) → T (every (λ (r : Utf8Row). whole m n (r .lead)) rs) → followOf rs b ≡ followOf rs m
   each [] t = refl
   each (r ∷ rs) t =
-      let e = same (r .lead) (ltb (r .lead .high) m) (ltb n (r .lead .low)) refl refl (and-l (whole m n (r .lead)) (every (λ (q : Row). whole m n (q .lead)) rs) t) in
-      let f = each rs (and-r (whole m n (r .lead)) (every (λ (q : Row). whole m n (q .lead)) rs) t) in
+      let e = same (r .lead) (ltb (r .lead .high) m) (ltb n (r .lead .low)) refl refl (and-l (whole m n (r .lead)) (every (λ (q : Utf8Row). whole m n (q .lead)) rs) t) in
+      let f = each rs (and-r (whole m n (r .lead)) (every (λ (q : Utf8Row). whole m n (q .lead)) rs) t) in
       cc
 
 -- what a byte begins, of the bytes from m to n: what m begins
-pub alike : (m n b : ℕ) → T (every (λ (r : Row). whole m n (r .lead)) UTF8-char) → m ≤ b → b ≤ n
+pub alike : (m n b : ℕ) → T (every (λ (r : Utf8Row). whole m n (r .lead)) UTF8-char) → m ≤ b → b ≤ n
     → followOf UTF8-char m ≡ followOf UTF8-char b
 alike m n b t p q = sym (each m n b p q UTF8-char t)

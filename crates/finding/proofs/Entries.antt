@@ -9,7 +9,7 @@ use Rattle.definition.specs.Shapes.{sameKey, entry}
 use Rattle.definition.specs.State.{State, Got, got, lookup, idOf}
 use Rattle.definition.specs.Finding.{find, findAt, orNewKey}
 use Rattle.writer.specs.declared.Writer.{Writer}
-use Rattle.writer.specs.Cost.{nothing}
+use Rattle.writer.specs.Cost.{noCost}
 use Rattle.writer.specs.Held.{Held}
 use Rattle.writer.specs.Steps.{Gives, GotBy}
 use Rattle.finding.proofs.Ways.{taken}
@@ -23,7 +23,7 @@ entry-found h s = go (lookup sameKey (entry h) (s .types))
     go none = refl
 
 pub entry-got : (h : ℕ) (w : Writer) (T : List ℕ) (x : ℕ) → ((S : List ℕ) (s : State) → Held w T S s → x ≡ orElse 0 (idOf s (entry h)))
-    → (S : List ℕ) → GotBy nothing (find (entry h)) w T S (taken x w) T S
+    → (S : List ℕ) → GotBy noCost (find (entry h)) w T S (taken x w) T S
 entry-got h w T x e S = record {
   grown = omega arith;
   tail = record { parts = refl; ids = λ j l. refl };

@@ -7,7 +7,7 @@ use native.Mathlib.Omega.{arith}
 use Rattle.definition.specs.Shapes.{Shape, Key, inner, sized, rank, rankOf}
 use Rattle.definition.specs.Shapes.{float, one, many, scalar, vector, matrix, pointer, valuePointer, image, sampler, accelerationStructure, rayQuery, bindingArray, bindingPointer, entry, shape}
 use Rattle.writer.specs.Cost.{Cost, _⊕_}
-use Rattle.finding.specs.Costs.{own, within, costOf, literalCost}
+use Rattle.finding.specs.Costs.{ownCost, declaredCost, costOf, literalCost}
 
 -- no part of a cost is more than the other's
 pub record AtMost (c d : Cost) : Type 0 where
@@ -39,7 +39,7 @@ inner-rank (bindingArray b n) k e = let h : entry b ≡ k = cc in rw (← h) ref
 inner-rank (bindingPointer b n s a) k e = let h : shape (bindingArray b n) ≡ k = cc in rw (← h) refl
 
 -- its price has room for what it names and for its own instruction
-pub inner-price : (l : Shape) (k : Key) → inner l ≡ some k → AtMost (costOf k ⊕ own l) (within l)
+pub inner-price : (l : Shape) (k : Key) → inner l ≡ some k → AtMost (costOf k ⊕ ownCost l) (declaredCost l)
 inner-price (scalar a) k e = let z : _≡_ {A = ℕ} 0 1 = cc in omega arith
 inner-price (vector n a) k e = let h : shape (scalar a) ≡ k = cc in rw (← h) (omega arith)
 inner-price (matrix c r w) k e = let h : shape (vector r (float w)) ≡ k = cc in rw (← h) (omega arith)
@@ -74,10 +74,10 @@ module _ (l : Shape) (n : ℕ) where
       go (bindingArray b m) e = refl
       go (bindingPointer b m s a) e = absurd (none-sized e)
 
-  pub sized-price : (k : Key) → inner l ≡ some k → sized l ≡ some n → AtMost (costOf k ⊕ literalCost ⊕ own l) (within l)
+  pub sized-price : (k : Key) → inner l ≡ some k → sized l ≡ some n → AtMost (costOf k ⊕ literalCost ⊕ ownCost l) (declaredCost l)
   sized-price k i e = go l i e
     where
-      go : (l : Shape) → inner l ≡ some k → sized l ≡ some n → AtMost (costOf k ⊕ literalCost ⊕ own l) (within l)
+      go : (l : Shape) → inner l ≡ some k → sized l ≡ some n → AtMost (costOf k ⊕ literalCost ⊕ ownCost l) (declaredCost l)
       go (scalar a) i e = absurd (none-sized e)
       go (vector m a) i e = absurd (none-sized e)
       go (matrix c r w) i e = absurd (none-sized e)

@@ -9,13 +9,13 @@ use native.Mathlib.Omega.{arith}
 use Rattle.definition.specs.Literals.{Literal, u32, sameLiteral}
 use Rattle.definition.specs.Instructions.{Instruction, words, constantNull}
 use Rattle.definition.specs.Shapes.{Shape, Key, sameKey, inner, sized, rank, rankOf, typeOf, uint, scalar, entry, shape}
-use Rattle.definition.specs.State.{State, Constants, Got, got, lookup, takeId, enter, declare, declareWith, withConstants, listed, listOne, occurrences}
+use Rattle.definition.specs.State.{State, Constants, Got, got, lookup, takeId, enter, declareAlone, declareWith, withConstants, listed, listOne, occurrences}
 use Rattle.definition.specs.Finding.{find, findAt, orNewKey, newKey, declareShape, innerGot, lengthGot, literal, literalWith, orNewValue, newValue, literalKind, literalOp, enterLiteral, nullOf, orNewNull, capabilitiesOf}
 use Rattle.spirv.specs.Put.{Put}
 use Rattle.spirv.proofs.Puts as Lent
-use Rattle.literals.specs.Forms.{formOf, bitsOf}
+use Rattle.literals.specs.Forms.{literalForm, bitsOf}
 use Rattle.lookup.specs.Local.{asList}
-use Rattle.lookup.specs.Packed.{packed, Small, SmallShape}
+use Rattle.lookup.specs.Packed.{packedKey, Small, SmallShape}
 use Rattle.writer.specs.declared.Writer.{Writer}
 use Rattle.writer.specs.declared.Taken.{Taken}
 use Rattle.writer.specs.declared.Sought.{Sought}
@@ -27,8 +27,8 @@ use Rattle.writer.specs.Cost.{Cost, declaring}
 use Rattle.writer.specs.Held.{Held, RoomFor, Grown}
 use Rattle.writer.specs.Steps.{Kept, Gives, GotBy, Took, FindsType, FindsLiteral, FindsNull, EnteredType, EnteredLiteral, EnteredNull, noteNull, Puts, Listed, listing}
 use Rattle.writer.proofs.Words.{adds-put}
-use Rattle.finding.specs.Costs.{longer, within, costOf, literalCost, nullCost}
-use Rattle.finding.specs.Found.{below, shapeDeclared, ShapePut}
+use Rattle.finding.specs.Costs.{longer, declaredCost, costOf, literalCost, nullCost}
+use Rattle.finding.specs.Found.{findBelow, shapeDeclared, ShapePut}
 use Rattle.finding.proofs.Spelling.{type-low, type-few}
 use Rattle.finding.proofs.Prices.{inner-rank, inner-price, sized-rank, sized-price, bare}
 
@@ -39,7 +39,7 @@ unfolding listed
 listed-append [] ys cs = refl
 listed-append (x ∷ xs) ys cs = listed-append xs ys (listOne (occurrences x cs) x cs)
 
-declared-listed : (i : Instruction) (a b cs : List ℕ) → a ++ b ≡ cs → (s : State) → declare i (listing b (listing a s)) ≡ declareWith cs i s
+declared-listed : (i : Instruction) (a b cs : List ℕ) → a ++ b ≡ cs → (s : State) → declareAlone i (listing b (listing a s)) ≡ declareWith cs i s
 unfolding listed
 declared-listed i a b cs e s =
     let q : listed b (listed a (s .capabilities)) ≡ listed cs (s .capabilities) = sym (listed-append a b (s .capabilities)) ∙ ap (λ (l : List ℕ). listed l (s .capabilities)) e in
@@ -76,16 +76,16 @@ got-old c f w T S id e = record { grown = still c w; tail = record { parts = ref
 
 -- ---- finding a key
 
-at-rank : (n : ℕ) (k : Key) (s : State) → findAt n k s ≡ orNewKey (lookup sameKey k (s .types)) (below n) k s
+at-rank : (n : ℕ) (k : Key) (s : State) → findAt n k s ≡ orNewKey (lookup sameKey k (s .types)) (findBelow n) k s
 unfolding findAt
 at-rank zero k s = refl
 at-rank (suc n) k s = refl
 
-found : (k : Key) (s : State) (o : Option ℕ) → lookup sameKey k (s .types) ≡ o → find k s ≡ orNewKey o (below (rank k)) k s
+found : (k : Key) (s : State) (o : Option ℕ) → lookup sameKey k (s .types) ≡ o → find k s ≡ orNewKey o (findBelow (rank k)) k s
 unfolding find
-found k s o e = at-rank (rank k) k s ∙ ap (λ (p : Option ℕ). orNewKey p (below (rank k)) k s) e
+found k s o e = at-rank (rank k) k s ∙ ap (λ (p : Option ℕ). orNewKey p (findBelow (rank k)) k s) e
 
-module _ (k : Key) (sm : Small k) (key : ℕ) (ek : key ≡ packed k) (w : Writer) (T S : List ℕ) (r : Sought) (er : FindsType key w T r) where
+module _ (k : Key) (sm : Small k) (key : ℕ) (ek : key ≡ packedKey k) (w : Writer) (T S : List ℕ) (r : Sought) (er : FindsType key w T r) where
   looked : (o : Sought) → r ≡ o → (s : State) → Held w T S s → lookup sameKey k (s .types) ≡ soughtOf o
   looked o e s h = sym (er k sm ek S s h) ∙ ap soughtOf e
 
@@ -93,17 +93,17 @@ module _ (k : Key) (sm : Small k) (key : ℕ) (ek : key ≡ packed k) (w : Write
   type-old id e = got-old (costOf k) (find k) w T S id (λ s h. found k s (some id) (looked (Id id) e s h))
 
   pub type-absent : r ≡ Absent → (i : ℕ) → k ≡ entry i → GotBy (costOf k) (find k) w T S (taken 0 w) T S
-  type-absent e i ei = got-old (costOf k) (find k) w T S 0 (λ s h. found k s none (looked Absent e s h) ∙ ap (λ (j : Key). newKey (below (rank k)) j s) ei)
+  type-absent e i ei = got-old (costOf k) (find k) w T S 0 (λ s h. found k s none (looked Absent e s h) ∙ ap (λ (j : Key). newKey (findBelow (rank k)) j s) ei)
 
   pub type-new : r ≡ Absent → (l : Shape) → k ≡ shape l → (n : Taken) → Took w n → (v : Writer) (T₂ : List ℕ) → EnteredType key (n .id) (n .writer) T v T₂
-      → (u : Writer) (T₃ S₃ : List ℕ) → Kept (within l) (shapeDeclared l (n .id)) v T₂ S u T₃ S₃ → GotBy (costOf k) (find k) w T S (taken (n .id) u) T₃ S₃
+      → (u : Writer) (T₃ S₃ : List ℕ) → Kept (declaredCost l) (shapeDeclared l (n .id)) v T₂ S u T₃ S₃ → GotBy (costOf k) (find k) w T S (taken (n .id) u) T₃ S₃
   type-new e l el n p v T₂ q u T₃ S₃ d =
       rw el (record {
         grown = omega (arith, p .grown, q .grown, d .grown);
         tail = record { parts = omega (arith, p .grown, q .tail, d .tail); ids = λ j l. d .tail .ids j (omega (arith, p .grown, q .grown)) ∙ q .tail .ids j (omega (arith, p .grown)) };
         gives = λ s h.
             let ei : n .id ≡ suc (s .last) = p .named ∙ ap suc (h .last) in
-            let f : find (shape l) s ≡ declareShape (below (rankOf l)) l (suc (s .last)) (enter (shape l) (suc (s .last)) (takeId s)) =
+            let f : find (shape l) s ≡ declareShape (findBelow (rankOf l)) l (suc (s .last)) (enter (shape l) (suc (s .last)) (takeId s)) =
             found (shape l) s none (ap (λ (j : Key). lookup sameKey j (s .types)) (sym el) ∙ looked Absent e s h) in
             let c : shapeDeclared l (n .id) (enter k (n .id) (takeId s)) ≡ find (shape l) s .state =
             (λ t. shapeDeclared l (ei t) (enter (el t) (ei t) (takeId s))) ∙ sym (ap (λ (g : Got). g .state) f) in
@@ -132,19 +132,19 @@ named o q f l id s =
     declareWith (capabilitiesOf l) (typeOf l id (g .id) (c .id)) (c .state)
 
 module _ (l : Shape) (id : ℕ) (w : Writer) (T S : List ℕ) where
-  pub declared-bare : inner l ≡ none → (v : Writer) (S₁ : List ℕ) → ShapePut l id 0 0 w S v S₁ → Kept (within l) (shapeDeclared l id) w T S v T S₁
+  pub declared-bare : inner l ≡ none → (v : Writer) (S₁ : List ℕ) → ShapePut l id 0 0 w S v S₁ → Kept (declaredCost l) (shapeDeclared l id) w T S v T S₁
   declared-bare e v S₁ p = record {
     grown = omega (arith, p .grown);
     tail = record { parts = omega (arith, p .grown); ids = λ j l. refl };
-    held = λ s h. subst (Held v T S₁) (sym (λ j. named (e j) (bare l e j) (below (rankOf l)) l id s)) (p .held T s h);
+    held = λ s h. subst (Held v T S₁) (sym (λ j. named (e j) (bare l e j) (findBelow (rankOf l)) l id s)) (p .held T s h);
   }
 
   module _ (k : Key) (e : inner l ≡ some k) (f : Taken) (T₁ S₁ : List ℕ) (g : GotBy (costOf k) (find k) w T S f T₁ S₁) where
     -- the shape is one deeper than what it names
     one-deeper : (q : Option ℕ) → sized l ≡ q → (s : State) → shapeDeclared l id s ≡ named (some k) q (findAt (rank k)) l id s
-    one-deeper q eq s = (λ j. named (e j) (eq j) (below (rankOf l)) l id s) ∙ ap (λ (n : ℕ). named (some k) q (below n) l id s) (inner-rank l k e)
+    one-deeper q eq s = (λ j. named (e j) (eq j) (findBelow (rankOf l)) l id s) ∙ ap (λ (n : ℕ). named (some k) q (findBelow n) l id s) (inner-rank l k e)
 
-    pub declared-inner : sized l ≡ none → (v : Writer) (S₂ : List ℕ) → ShapePut l id (f .id) 0 (f .writer) S₁ v S₂ → Kept (within l) (shapeDeclared l id) w T S v T₁ S₂
+    pub declared-inner : sized l ≡ none → (v : Writer) (S₂ : List ℕ) → ShapePut l id (f .id) 0 (f .writer) S₁ v S₂ → Kept (declaredCost l) (shapeDeclared l id) w T S v T₁ S₂
     unfolding find
     declared-inner eq v S₂ p =
         record {
@@ -157,7 +157,7 @@ module _ (l : Shape) (id : ℕ) (w : Writer) (T S : List ℕ) where
         }
 
     pub declared-sized : (n : ℕ) → sized l ≡ some n → (x : Taken) (T₂ S₂ : List ℕ) → GotBy literalCost (literal (u32 n)) (f .writer) T₁ S₁ x T₂ S₂
-        → (v : Writer) (S₃ : List ℕ) → ShapePut l id (f .id) (x .id) (x .writer) S₂ v S₃ → Kept (within l) (shapeDeclared l id) w T S v T₂ S₃
+        → (v : Writer) (S₃ : List ℕ) → ShapePut l id (f .id) (x .id) (x .writer) S₂ v S₃ → Kept (declaredCost l) (shapeDeclared l id) w T S v T₂ S₃
     unfolding find
     declared-sized n eq x T₂ S₂ y v S₃ p =
         let z : rank k ≡ 0 = omega (arith, inner-rank l k e, sized-rank l n eq) in
@@ -190,15 +190,15 @@ module _ (f : State → Got) (k : Key) (write : ℕ → ℕ → Instruction) (no
       let a = q .gives (takeId s) (p .held T S s h) in
       let i = write (t .id) (m .id) in
       let b = d .held T₁ (g .state) (a .held) in
-      let y = x S₂ (declare i (g .state)) b in
+      let y = x S₂ (declareAlone i (g .state)) b in
       record {
         named = ej ∙ sym (ap (λ (z : Got). z .id) (e s h));
-        held = subst (Held u T₂ S₂) ((λ j. withConstants (note (ej j) (g .state .constants)) (declare (write (a .named j) (ej j)) (g .state))) ∙ sym (ap (λ (z : Got). z .state) (e s h))) y;
+        held = subst (Held u T₂ S₂) ((λ j. withConstants (note (ej j) (g .state .constants)) (declareAlone (write (a .named j) (ej j)) (g .state))) ∙ sym (ap (λ (z : Got). z .state) (e s h))) y;
       }
 
 -- ---- literals
 
-module _ (L : Literal) (form bits : ℕ) (ef : form ≡ formOf L) (eb : bits ≡ bitsOf L) (w : Writer) (T S : List ℕ) (r : Sought) (er : FindsLiteral form bits w T r) where
+module _ (L : Literal) (form bits : ℕ) (ef : form ≡ literalForm L) (eb : bits ≡ bitsOf L) (w : Writer) (T S : List ℕ) (r : Sought) (er : FindsLiteral form bits w T r) where
   abbrev k : Key
   k = shape (scalar (literalKind L))
 
@@ -240,9 +240,9 @@ module _ (t : ℕ) (w : Writer) (T S : List ℕ) (r : Sought) (er : FindsNull t 
             let o = sought-null Absent e s h in
             let i = constantNull t (m .id) in
             let b = d .held T (takeId s) (p .held T S s h) in
-            let y = x .held S₂ (declare i (takeId s)) b in
+            let y = x .held S₂ (declareAlone i (takeId s)) b in
             record {
               named = ej ∙ sym (ap (λ (z : Got). z .id) o);
-              held = subst (Held u T₂ S₂) ((λ j. noteNull t (ej j) (declare (constantNull t (ej j)) (takeId s))) ∙ sym (ap (λ (z : Got). z .state) o)) y;
+              held = subst (Held u T₂ S₂) ((λ j. noteNull t (ej j) (declareAlone (constantNull t (ej j)) (takeId s))) ∙ sym (ap (λ (z : Got). z .state) o)) y;
             };
       }

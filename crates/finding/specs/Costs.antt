@@ -2,7 +2,7 @@
 use Prim.Native.Nat.{ℕ, _+_, _*_}
 use Rattle.definition.specs.Shapes.{Shape, Key, rankOf}
 use Rattle.definition.specs.Shapes.{scalar, vector, matrix, pointer, valuePointer, image, sampler, accelerationStructure, rayQuery, bindingArray, bindingPointer, entry, shape}
-use Rattle.writer.specs.Cost.{Cost, nothing, anId, aType, aLiteral, aNull, capabilitiesOf, declaring, _⊕_}
+use Rattle.writer.specs.Cost.{Cost, noCost, anId, aType, aLiteral, aNull, listingCost, declaring, _⊕_}
 
 -- how many lengths a shape names, itself or in what it names
 abbrev pub lengths : Shape → ℕ
@@ -33,12 +33,12 @@ longer (bindingArray b n) = 0
 longer (bindingPointer b n s a) = 0
 
 -- a shape's own instruction, and its capabilities
-abbrev pub own : Shape → Cost
-own l = capabilitiesOf 2 ⊕ declaring (4 + longer l)
+abbrev pub ownCost : Shape → Cost
+ownCost l = listingCost 2 ⊕ declaring (4 + longer l)
 
 -- a shape under its id: what it names, and its own instruction
-abbrev pub within : Shape → Cost
-within l = record {
+abbrev pub declaredCost : Shape → Cost
+declaredCost l = record {
   types = rankOf l;
   literals = lengths l;
   nulls = 0;
@@ -54,12 +54,12 @@ within l = record {
 
 -- a key: an entry is found or not, and never declared
 abbrev pub costOf : Key → Cost
-costOf (entry h) = nothing
-costOf (shape l) = aType ⊕ anId ⊕ within l
+costOf (entry h) = noCost
+costOf (shape l) = aType ⊕ anId ⊕ declaredCost l
 
 -- a literal: its type, which is a scalar, then five words at most
 abbrev pub literalCost : Cost
-literalCost = aType ⊕ anId ⊕ capabilitiesOf 2 ⊕ declaring 9 ⊕ anId ⊕ aLiteral
+literalCost = aType ⊕ anId ⊕ listingCost 2 ⊕ declaring 9 ⊕ anId ⊕ aLiteral
 
 abbrev pub nullCost : Cost
 nullCost = anId ⊕ declaring 3 ⊕ aNull

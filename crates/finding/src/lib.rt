@@ -7,7 +7,7 @@ use lookup::Inner;
 use lookup::Length;
 use lookup::LocalType;
 use lookup::LookupType;
-use lookup::PointerClass;
+use lookup::PointerSpace;
 use lookup::VectorSize;
 use spirv::low_word;
 use writer::DECLARATIONS;
@@ -29,13 +29,13 @@ ghost use Rattle.definition.specs.Literals.{u32 as unsigned};
 ghost use Rattle.definition.specs.Finding.{find, literal, literalKind, literalOp, nullOf};
 ghost use Rattle.kinds.specs.Numbers.{kindNumber};
 ghost use Rattle.literals.specs.Forms.{literalOf};
-ghost use Rattle.lookup.specs.Local.{shapeOf, keyOf};
+ghost use Rattle.lookup.specs.Local.{localShape, keyOf};
 ghost use Rattle.lookup.specs.Packed.{SmallShape};
 ghost use Rattle.writer.specs.Regions.{declarations};
-ghost use Rattle.writer.specs.Cost.{nothing, declaring};
+ghost use Rattle.writer.specs.Cost.{noCost, declaring};
 ghost use Rattle.writer.specs.Held.{Held, RoomIn, RoomFor, Room};
 ghost use Rattle.writer.specs.Steps.{GotBy, Kept, Puts};
-ghost use Rattle.finding.specs.Costs.{own, within, costOf, literalCost, nullCost};
+ghost use Rattle.finding.specs.Costs.{ownCost, declaredCost, costOf, literalCost, nullCost};
 ghost use Rattle.finding.specs.Found.{shapeDeclared, ShapePut};
 
 // ---- types
@@ -50,8 +50,8 @@ fn put_declaration(
     x: u64,
     y: u64,
 ) -> Writer
-    requires { ⌜ SmallShape (shapeOf l) × RoomFor (own (shapeOf l)) w (now sections) ⌝ }
-    ensures { λ r. ⌜ ShapePut (shapeOf l) id x y w (now (sections .entry)) r (now (sections .exit)) ⌝ }
+    requires { ⌜ SmallShape (localShape l) × RoomFor (ownCost (localShape l)) w (now sections) ⌝ }
+    ensures { λ r. ⌜ ShapePut (localShape l) id x y w (now (sections .entry)) r (now (sections .exit)) ⌝ }
 {
     let c = lookup::capabilities_of(l);
     let first = writer::listed(sections, w.capabilities, c.first);
@@ -69,11 +69,11 @@ fn put_declaration(
 }
 
 // The id of a type, which is declared if it has none yet. Of an entry that is not there it is 0.
-pub fn get_type_id(tables: &mut [u64], sections: &mut [u32], w: Writer, t: LookupType) -> Taken
-    requires { ⌜ Room (costOf (keyOf t)) w (now tables) (now sections) ⌝ }
-    ensures { λ r. ⌜ GotBy (costOf (keyOf t)) (find (keyOf t)) w (now (tables .entry)) (now (sections .entry)) r (now (tables .exit)) (now (sections .exit)) ⌝ }
+pub fn get_type_id(tables: &mut [u64], sections: &mut [u32], w: Writer, ty: LookupType) -> Taken
+    requires { ⌜ Room (costOf (keyOf ty)) w (now tables) (now sections) ⌝ }
+    ensures { λ r. ⌜ GotBy (costOf (keyOf ty)) (find (keyOf ty)) w (now (tables .entry)) (now (sections .entry)) r (now (tables .exit)) (now (sections .exit)) ⌝ }
 {
-    match t {
+    match ty {
         LookupType::Handle(h) => match writer::find_type(tables, w, lookup::handle_key(h)) {
             Sought::Id(id) => Taken { id, writer: w },
             Sought::Absent => Taken { id: 0, writer: w },
@@ -102,10 +102,10 @@ fn write_type_declaration_local(
     l: LocalType,
     id: u64,
 ) -> Writer
-    requires { ⌜ SmallShape (shapeOf l) × Room (within (shapeOf l)) w (now tables) (now sections) ⌝ }
-    ensures { λ r. ⌜ Kept (within (shapeOf l)) (shapeDeclared (shapeOf l) id) w (now (tables .entry)) (now (sections .entry)) r (now (tables .exit)) (now (sections .exit)) ⌝ }
+    requires { ⌜ SmallShape (localShape l) × Room (declaredCost (localShape l)) w (now tables) (now sections) ⌝ }
+    ensures { λ r. ⌜ Kept (declaredCost (localShape l)) (shapeDeclared (localShape l) id) w (now (tables .entry)) (now (sections .entry)) r (now (tables .exit)) (now (sections .exit)) ⌝ }
 {
-    match lookup::inner_of(l) {
+    match lookup::inner_type(l) {
         Inner::Nothing => put_declaration(sections, w, l, id, 0, 0),
         Inner::Of(t) => {
             let f = get_type_id(tables, sections, w, t);
@@ -122,11 +122,11 @@ fn write_type_declaration_local(
 
 // The id of a type that is entered; 0 where it is not. Of an entry this is all that `get_type_id` does, one search: an entry is never
 // declared by being found.
-pub fn type_id(tables: &[u64], w: Writer, t: LookupType) -> u64
-    requires { ⌜ RoomIn nothing w (now tables) ⌝ }
-    ensures { λ r. ⌜ ((S : List ℕ) (s : State) → Held w (now (tables .entry)) S s → r ≡ orElse 0 (idOf s (keyOf t))) ⌝ }
+pub fn type_id(tables: &[u64], w: Writer, ty: LookupType) -> u64
+    requires { ⌜ RoomIn noCost w (now tables) ⌝ }
+    ensures { λ r. ⌜ ((S : List ℕ) (s : State) → Held w (now (tables .entry)) S s → r ≡ orElse 0 (idOf s (keyOf ty))) ⌝ }
 {
-    match writer::find_type(tables, w, lookup::key(t)) {
+    match writer::find_type(tables, w, lookup::key(ty)) {
         Sought::Id(id) => id,
         Sought::Absent => 0,
     }
@@ -141,14 +141,14 @@ fn scalar_type(kind: ScalarKind, width: u8) -> LookupType
         size: VectorSize::One,
         kind,
         width,
-        class: PointerClass::Nowhere,
+        class: PointerSpace::Nowhere,
     })
 }
 
-pub fn literal_type(l: Literal) -> LookupType
-    ensures { λ r. ⌜ keyOf r ≡ shape (scalar (literalKind (literalOf l))) ⌝ }
+pub fn literal_type(value: Literal) -> LookupType
+    ensures { λ r. ⌜ keyOf r ≡ shape (scalar (literalKind (literalOf value))) ⌝ }
 {
-    match l {
+    match value {
         Literal::F64(_) => scalar_type(ScalarKind::Float, 8),
         Literal::F32(_) => scalar_type(ScalarKind::Float, 4),
         Literal::Nan64(_) => scalar_type(ScalarKind::Float, 8),
@@ -164,8 +164,8 @@ fn write_literal(sections: &mut [u32], w: Writer, l: Literal, ty: u64, id: u64) 
     requires { ⌜ RoomFor (declaring 5) w (now sections) ⌝ }
     ensures { λ r. ⌜ Puts declarations 5 (literalOp (literalOf l) ty id) w (now (sections .entry)) r (now (sections .exit)) ⌝ }
 {
-    let low = literals::low_word(l);
-    let high = literals::high_word(l);
+    let low = literals::first_word(l);
+    let high = literals::second_word(l);
     match l {
         Literal::F64(_) => constant_64bit(sections, w, ty, id, low, high),
         Literal::F32(_) => constant_32bit(sections, w, ty, id, low),
@@ -183,19 +183,24 @@ fn write_literal(sections: &mut [u32], w: Writer, l: Literal, ty: u64, id: u64) 
 }
 
 // The id of a literal, which takes its id before its type is found.
-pub fn get_constant_scalar(tables: &mut [u64], sections: &mut [u32], w: Writer, l: Literal) -> Taken
+pub fn get_constant_scalar(
+    tables: &mut [u64],
+    sections: &mut [u32],
+    w: Writer,
+    value: Literal,
+) -> Taken
     requires { ⌜ Room literalCost w (now tables) (now sections) ⌝ }
-    ensures { λ r. ⌜ GotBy literalCost (literal (literalOf l)) w (now (tables .entry)) (now (sections .entry)) r (now (tables .exit)) (now (sections .exit)) ⌝ }
+    ensures { λ r. ⌜ GotBy literalCost (literal (literalOf value)) w (now (tables .entry)) (now (sections .entry)) r (now (tables .exit)) (now (sections .exit)) ⌝ }
 {
-    let form = literals::form(l) as u64;
-    let bits = literals::bits(l);
+    let form = literals::form(value) as u64;
+    let bits = literals::bits(value);
     match writer::find_literal(tables, w, form, bits) {
         Sought::Id(id) => Taken { id, writer: w },
         Sought::Absent => {
             let m = writer::take_id(w);
             let id = m.id;
-            let f = get_type_id(tables, sections, m.writer, literal_type(l));
-            let v = write_literal(sections, f.writer, l, f.id, id);
+            let f = get_type_id(tables, sections, m.writer, literal_type(value));
+            let v = write_literal(sections, f.writer, value, f.id, id);
             let u = writer::enter_literal(tables, v, form, bits, id);
             Taken { id, writer: u }
         }
@@ -213,7 +218,7 @@ pub fn get_index_constant(tables: &mut [u64], sections: &mut [u32], w: Writer, i
 // ---- nulls
 
 // The id of the null of the type with an id.
-pub fn write_constant_null(tables: &mut [u64], sections: &mut [u32], w: Writer, ty: u64) -> Taken
+pub fn get_constant_null(tables: &mut [u64], sections: &mut [u32], w: Writer, ty: u64) -> Taken
     requires { ⌜ Room nullCost w (now tables) (now sections) ⌝ }
     ensures { λ r. ⌜ GotBy nullCost (nullOf ty) w (now (tables .entry)) (now (sections .entry)) r (now (tables .exit)) (now (sections .exit)) ⌝ }
 {

@@ -2,7 +2,7 @@
 use Prim.Native.Nat.{ℕ, zero, suc}
 use mathlib.Core.Path.{_≡_, refl, sym, ap, _∙_}
 use Rattle.definition.specs.Literals.{Literal, f64, f32, u32, i32, boolean}
-use Rattle.literals.specs.Forms.{formOf, bitsOf}
+use Rattle.literals.specs.Forms.{literalForm, bitsOf}
 
 again : ℕ → ℕ → Literal
 again zero n = f64 n
@@ -11,7 +11,7 @@ again (suc (suc zero)) n = u32 n
 again (suc (suc (suc zero))) n = i32 n
 again (suc (suc (suc (suc k)))) n = boolean n
 
-is-again : (x : Literal) → x ≡ again (formOf x) (bitsOf x)
+is-again : (x : Literal) → x ≡ again (literalForm x) (bitsOf x)
 unfolding again
 is-again (f64 n) = refl
 is-again (f32 n) = refl
@@ -19,5 +19,5 @@ is-again (u32 n) = refl
 is-again (i32 n) = refl
 is-again (boolean n) = refl
 
-pub same-literal : (x y : Literal) → formOf x ≡ formOf y → bitsOf x ≡ bitsOf y → x ≡ y
-same-literal x y e k = is-again x ∙ ap (again (formOf x)) k ∙ ap (λ (j : ℕ). again j (bitsOf y)) e ∙ sym (is-again y)
+pub same-literal : (x y : Literal) → literalForm x ≡ literalForm y → bitsOf x ≡ bitsOf y → x ≡ y
+same-literal x y e k = is-again x ∙ ap (again (literalForm x)) k ∙ ap (λ (j : ℕ). again j (bitsOf y)) e ∙ sym (is-again y)

@@ -19,12 +19,12 @@ literalOf (I32 x) = i32 (ofZ w32 x)
 literalOf (Bool b) = boolean (boolByte b)
 
 -- the form byte: 0 F64, 1 F32, 2 U32, 3 I32, 4 Bool
-abbrev pub formOf : Defined.Literal → ℕ
-formOf (f64 n) = 0
-formOf (f32 n) = 1
-formOf (u32 n) = 2
-formOf (i32 n) = 3
-formOf (boolean n) = 4
+abbrev pub literalForm : Defined.Literal → ℕ
+literalForm (f64 n) = 0
+literalForm (f32 n) = 1
+literalForm (u32 n) = 2
+literalForm (i32 n) = 3
+literalForm (boolean n) = 4
 
 -- the bits, whatever the form
 abbrev pub bitsOf : Defined.Literal → ℕ

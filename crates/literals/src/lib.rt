@@ -7,7 +7,7 @@ ghost use lib.ListN.{getD};
 ghost use mir.Syntax.{w32};
 ghost use mir.Val.{ofZ, toZ};
 ghost use Rattle.definition.specs.Literals.{f64, f32, u32 as unsigned, i32 as signed, literalWords};
-ghost use Rattle.literals.specs.Forms.{literalOf, formOf, bitsOf};
+ghost use Rattle.literals.specs.Forms.{literalOf, literalForm, bitsOf};
 
 // A float's bits are not always there to be had: from_bits and to_bits are undefined at a NaN, of which the logic knows
 // one without payload. So the pattern of a NaN stands in a case of its own, as a number.
@@ -90,10 +90,10 @@ fn pattern32(x: f32) -> u32
 }
 
 // The form byte of a literal.
-pub fn form(l: Literal) -> u8
-    ensures { λ r. ⌜ r ≡ formOf (literalOf l) ⌝ }
+pub fn form(value: Literal) -> u8
+    ensures { λ r. ⌜ r ≡ literalForm (literalOf value) ⌝ }
 {
-    match l {
+    match value {
         Literal::F64(_) => 0,
         Literal::F32(_) => 1,
         Literal::Nan64(_) => 0,
@@ -106,10 +106,10 @@ pub fn form(l: Literal) -> u8
 
 // The bits of a literal, whatever its form. Floats are not compared as numbers but by these, so +0 and -0 differ, and a NaN
 // is equal to itself.
-pub fn bits(l: Literal) -> u64
-    ensures { λ r. ⌜ r ≡ bitsOf (literalOf l) ⌝ }
+pub fn bits(value: Literal) -> u64
+    ensures { λ r. ⌜ r ≡ bitsOf (literalOf value) ⌝ }
 {
-    match l {
+    match value {
         Literal::F64(x) => pattern64(x),
         Literal::F32(x) => pattern32(x) as u64,
         Literal::Nan64(n) => n,
@@ -121,10 +121,10 @@ pub fn bits(l: Literal) -> u64
 }
 
 // The first word of a literal's value, and 0 where it has none.
-pub fn low_word(l: Literal) -> u32
-    ensures { λ r. ⌜ r ≡ getD (literalWords (literalOf l)) 0 0 ⌝ }
+pub fn first_word(value: Literal) -> u32
+    ensures { λ r. ⌜ r ≡ getD (literalWords (literalOf value)) 0 0 ⌝ }
 {
-    match l {
+    match value {
         Literal::F64(x) => low_half(pattern64(x)),
         Literal::F32(x) => pattern32(x),
         Literal::Nan64(n) => low_half(n),
@@ -136,10 +136,10 @@ pub fn low_word(l: Literal) -> u32
 }
 
 // The second word of a literal's value, and 0 where it has none.
-pub fn high_word(l: Literal) -> u32
-    ensures { λ r. ⌜ r ≡ getD (literalWords (literalOf l)) 1 0 ⌝ }
+pub fn second_word(value: Literal) -> u32
+    ensures { λ r. ⌜ r ≡ getD (literalWords (literalOf value)) 1 0 ⌝ }
 {
-    match l {
+    match value {
         Literal::F64(x) => high_half(pattern64(x)),
         Literal::F32(_) => 0,
         Literal::Nan64(n) => high_half(n),

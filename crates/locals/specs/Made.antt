@@ -8,18 +8,18 @@ use Rattle.definition.specs.Choice.{pick}
 use Rattle.definition.specs.Shapes.{Shape, Kind, sint, uint, float, bool, formats}
 use Rattle.lookup.specs.declared.LocalImageType.{LocalImageType}
 use Rattle.lookup.specs.declared.LocalType.the-variants.{Image}
-use Rattle.lookup.specs.Local.{shapeOf}
-use Rattle.locals.specs.declared.Made.{Made}
-use Rattle.locals.specs.declared.Made.the-variants.{Local, Aggregate}
+use Rattle.lookup.specs.Local.{localShape}
+use Rattle.locals.specs.declared.MaybeLocal.{MaybeLocal}
+use Rattle.locals.specs.declared.MaybeLocal.the-variants.{Local, Aggregate}
 
 -- a shape, or none
-abbrev pub madeOf : Made → Option Shape
-madeOf (Local l) = some (shapeOf l)
+abbrev pub madeOf : MaybeLocal → Option Shape
+madeOf (Local l) = some (localShape l)
 madeOf Aggregate = none
 
 -- an image's shape
 abbrev pub imageShape : LocalImageType → Shape
-imageShape i = shapeOf (Image i)
+imageShape i = localShape (Image i)
 
 -- a kind's number; storage formats have no Bool
 abbrev pub kindDigit : Kind → ℕ

@@ -7,7 +7,7 @@ use kinds::ImageDimension;
 use kinds::ScalarKind;
 use lookup::LocalImageType;
 use lookup::LocalType;
-use lookup::PointerClass;
+use lookup::PointerSpace;
 use lookup::VectorSize;
 use spirv::helpers::map_storage_class;
 ghost use mathlib.Core.Path.{_≡_};
@@ -16,11 +16,11 @@ ghost use Prim.Native.Nat.{ℕ};
 ghost use Rattle.definition.specs.Shapes.{storageClass, dimOf, imageOf, shapeOf as definedShape, countOf as definedCount};
 ghost use Rattle.kinds.specs.Numbers.{flagNumber, spaceNumber, dimensionNumber, classNumber, classFirst, classSecond};
 ghost use Rattle.entries.specs.Types.{innerOf};
-ghost use Rattle.lookup.specs.Local.{countOf};
+ghost use Rattle.lookup.specs.Local.{vectorCount};
 ghost use Rattle.locals.specs.Made.{madeOf, formatCode, imageShape};
 
 // `Option<LocalType>`: an aggregate is declared under its entry alone.
-pub enum Made {
+pub enum MaybeLocal {
     Local(LocalType),
     Aggregate,
 }
@@ -211,7 +211,7 @@ fn flag_byte(b: bool) -> u8
 
 // A value pointer's size byte: 0 is a scalar's.
 fn vector_size(n: u8) -> VectorSize
-    ensures { λ r. ⌜ countOf r ≡ definedCount n ⌝ }
+    ensures { λ r. ⌜ vectorCount r ≡ definedCount n ⌝ }
 {
     if n == 0 {
         return VectorSize::One;
@@ -260,38 +260,38 @@ fn image_type(dim: ImageDimension, arrayed: bool, class: ImageClass) -> LocalIma
 }
 
 // Whatever the body is that the type was read from: a struct's members stand there, and no shape has any.
-pub fn make_local(t: TypeInner) -> Made
-    ensures { λ r. ⌜ ((b : List ℕ) (n : ℕ) → madeOf r ≡ definedShape (innerOf b n t)) ⌝ }
+pub fn make_local(inner: TypeInner) -> MaybeLocal
+    ensures { λ r. ⌜ ((b : List ℕ) (n : ℕ) → madeOf r ≡ definedShape (innerOf b n inner)) ⌝ }
 {
-    match t {
-        TypeInner::Scalar { kind, width } => Made::Local(LocalType::Value {
+    match inner {
+        TypeInner::Scalar { kind, width } => MaybeLocal::Local(LocalType::Value {
             size: VectorSize::One,
             kind,
             width,
-            class: PointerClass::Nowhere,
+            class: PointerSpace::Nowhere,
         }),
-        TypeInner::Vector { size, kind, width } => Made::Local(LocalType::Value {
+        TypeInner::Vector { size, kind, width } => MaybeLocal::Local(LocalType::Value {
             size: VectorSize::Many(size),
             kind,
             width,
-            class: PointerClass::Nowhere,
+            class: PointerSpace::Nowhere,
         }),
         TypeInner::Matrix {
             columns,
             rows,
             width,
-        } => Made::Local(LocalType::Matrix {
+        } => MaybeLocal::Local(LocalType::Matrix {
             columns,
             rows,
             width,
         }),
-        TypeInner::Atomic { kind, width } => Made::Local(LocalType::Value {
+        TypeInner::Atomic { kind, width } => MaybeLocal::Local(LocalType::Value {
             size: VectorSize::One,
             kind,
             width,
-            class: PointerClass::Nowhere,
+            class: PointerSpace::Nowhere,
         }),
-        TypeInner::Pointer { base, space } => Made::Local(LocalType::Pointer {
+        TypeInner::Pointer { base, space } => MaybeLocal::Local(LocalType::Pointer {
             base,
             class: class_byte(space),
         }),
@@ -303,27 +303,27 @@ pub fn make_local(t: TypeInner) -> Made
         } => {
             let z = vector_size(size);
             let c = class_byte(space);
-            Made::Local(LocalType::Value {
+            MaybeLocal::Local(LocalType::Value {
                 size: z,
                 kind,
                 width,
-                class: PointerClass::Class(c),
+                class: PointerSpace::Class(c),
             })
         }
         TypeInner::Array {
             base: _,
             size: _,
             stride: _,
-        } => Made::Aggregate,
-        TypeInner::Struct { span: _, count: _ } => Made::Aggregate,
+        } => MaybeLocal::Aggregate,
+        TypeInner::Struct { span: _, count: _ } => MaybeLocal::Aggregate,
         TypeInner::Image {
             dim,
             arrayed,
             class,
-        } => Made::Local(LocalType::Image(image_type(dim, arrayed, class))),
-        TypeInner::Sampler { comparison: _ } => Made::Local(LocalType::Sampler),
-        TypeInner::AccelerationStructure => Made::Local(LocalType::AccelerationStructure),
-        TypeInner::RayQuery => Made::Local(LocalType::RayQuery),
-        TypeInner::BindingArray { base: _, size: _ } => Made::Aggregate,
+        } => MaybeLocal::Local(LocalType::Image(image_type(dim, arrayed, class))),
+        TypeInner::Sampler { comparison: _ } => MaybeLocal::Local(LocalType::Sampler),
+        TypeInner::AccelerationStructure => MaybeLocal::Local(LocalType::AccelerationStructure),
+        TypeInner::RayQuery => MaybeLocal::Local(LocalType::RayQuery),
+        TypeInner::BindingArray { base: _, size: _ } => MaybeLocal::Aggregate,
     }
 }

@@ -1,5 +1,5 @@
 -- One number for each key: the digits give the key back. `keyFrom` reads a number's last digit, to base 16, which says what the
--- other digits are, and takes those in turn; for every key whose fields are digits (`Small`) it undoes `packed` (`back`), a line
+-- other digits are, and takes those in turn; for every key whose fields are digits (`Small`) it undoes `packedKey` (`back`), a line
 -- for each shape. So equal numbers are of equal keys, and comparing numbers decides what the definition's `sameKey` decides.
 use Prim.Native.Nat.{ℕ, _+_, _*_, _/_, _%_, _<_}
 use mathlib.Core.Path.{_≡_, refl, sym, ap, _∙_}
@@ -9,7 +9,7 @@ use native.Mathlib.Nat.{add-mul-mod-self-left, add-mul-div-left, mod-eq-of-lt, d
 use lib.Dec.{eqb}
 use Rattle.definition.specs.Choice.{pick}
 use Rattle.definition.specs.Shapes.{Kind, Shape, Key, sint, uint, float, bool, one, many, scalar, vector, matrix, pointer, valuePointer, image, sampler, accelerationStructure, rayQuery, bindingArray, bindingPointer, entry, shape}
-use Rattle.lookup.specs.Packed.{code, bytesKey, baseKey, packedShape, packed, Bytes, Base, SmallShape, Small}
+use Rattle.lookup.specs.Packed.{code, bytesKey, baseKey, packedShape, packedKey, Bytes, SmallBase, SmallShape, Small}
 
 -- ---- the key of a number
 
@@ -70,7 +70,7 @@ bytes-back t k a b c d e f st nb h =
     let p6 = digit 256 e f (h .small-e) in
     simp (p0 .0, p0 .1, p1 .0, p1 .1, p2 .0, p2 .1, p3 .0, p3 .1, p4 .0, p4 .1, p5 .0, p5 .1, p6 .0, p6 .1, nb)
 
-base-back : (t b n s a : ℕ) → t < 16 → ofBase t ≡ true → Base b n s a → keyFrom (baseKey t b n s a) ≡ byBase t b n s a
+base-back : (t b n s a : ℕ) → t < 16 → ofBase t ≡ true → SmallBase b n s a → keyFrom (baseKey t b n s a) ≡ byBase t b n s a
 unfolding keyFrom
 base-back t b n s a st nb h =
     let p0 = digit 16 t (b + 65536 * (n + 4294967296 * (s + 8 * a))) st in
@@ -80,7 +80,7 @@ base-back t b n s a st nb h =
     simp (p0 .0, p0 .1, p1 .0, p1 .1, p2 .0, p2 .1, p3 .0, p3 .1, nb)
 
 -- the key of a shape without fields is its last digit alone
-no-digits : Base 0 0 0 0
+no-digits : SmallBase 0 0 0 0
 no-digits = record { small-base = omega arith; small-size = omega arith; small-space = omega arith; small-access = omega arith }
 
 shape-back : (l : Shape) → SmallShape l → keyFrom (packedShape l) ≡ shape l
@@ -97,10 +97,10 @@ shape-back rayQuery h = base-back 10 0 0 0 0 (omega arith) refl no-digits
 shape-back (bindingArray b n) h = base-back 11 b n 0 0 (omega arith) refl h
 shape-back (bindingPointer b n s a) h = base-back 12 b n s a (omega arith) refl h
 
-pub back : (k : Key) → Small k → keyFrom (packed k) ≡ k
+pub back : (k : Key) → Small k → keyFrom (packedKey k) ≡ k
 back (entry i) h = base-back 0 i 0 0 0 (omega arith) refl h
 back (shape l) h = shape-back l h
 
 -- equal numbers, equal keys
-pub injective : (a b : Key) → Small a → Small b → packed a ≡ packed b → a ≡ b
+pub injective : (a b : Key) → Small a → Small b → packedKey a ≡ packedKey b → a ≡ b
 injective a b ha hb e = sym (back a ha) ∙ ap keyFrom e ∙ back b hb

@@ -10,8 +10,8 @@ use Rattle.kinds.specs.Numbers.{kindNumber, spaceNumber, spaceAccess}
 use Rattle.lookup.specs.Packed.{bytesKey, Bytes}
 use Rattle.lookup.specs.declared.VectorSize.{VectorSize}
 use Rattle.lookup.specs.declared.VectorSize.the-variants.{One, Many}
-use Rattle.lookup.specs.declared.PointerClass.{PointerClass}
-use Rattle.lookup.specs.declared.PointerClass.the-variants.{Nowhere, Class}
+use Rattle.lookup.specs.declared.PointerSpace.{PointerSpace}
+use Rattle.lookup.specs.declared.PointerSpace.the-variants.{Nowhere, Class}
 use Rattle.lookup.specs.declared.LocalType.{LocalType}
 use Rattle.lookup.specs.declared.LocalType.the-variants.{Value, Matrix, Pointer, Image, Sampler, PointerToBindingArray, BindingArray, AccelerationStructure, RayQuery}
 use Rattle.lookup.specs.declared.LookupType.{LookupType}
@@ -22,51 +22,51 @@ use Rattle.lookup.specs.declared.Length.{Length}
 use Rattle.lookup.specs.declared.Length.the-variants.{Nothing as Unsized, Of as Sized}
 
 -- one scalar, or a vector of so many
-abbrev pub countOf : VectorSize → Count
-countOf One = one
-countOf (Many n) = many n
+abbrev pub vectorCount : VectorSize → Count
+vectorCount One = one
+vectorCount (Many n) = many n
 
 -- a scalar, a vector, or a pointer to either
-abbrev pub valueOf : VectorSize → Kind → PointerClass → Shape
+abbrev pub valueOf : VectorSize → Kind → PointerSpace → Shape
 valueOf One k Nowhere = scalar k
 valueOf (Many n) k Nowhere = vector n k
-valueOf z k (Class c) = valuePointer (countOf z) k c
+valueOf z k (Class c) = valuePointer (vectorCount z) k c
 
 -- a shape; an image's sampled type is a scalar of width 4
-abbrev pub shapeOf : LocalType → Shape
-shapeOf (Value z k w c) = valueOf z (kindOf (kindNumber k) w) c
-shapeOf (Matrix c r w) = matrix c r w
-shapeOf (Pointer b c) = pointer b c
-shapeOf (Image i) = image (kindOf (kindNumber (i .kind)) 4) (i .dim) (i .depth) (i .arrayed) (i .multi) (i .sampled) (i .format)
-shapeOf Sampler = sampler
-shapeOf (PointerToBindingArray b n s) = bindingPointer b n (spaceNumber s) (spaceAccess s)
-shapeOf (BindingArray b n) = bindingArray b n
-shapeOf AccelerationStructure = accelerationStructure
-shapeOf RayQuery = rayQuery
+abbrev pub localShape : LocalType → Shape
+localShape (Value z k w c) = valueOf z (kindOf (kindNumber k) w) c
+localShape (Matrix c r w) = matrix c r w
+localShape (Pointer b c) = pointer b c
+localShape (Image i) = image (kindOf (kindNumber (i .kind)) 4) (i .dim) (i .depth) (i .arrayed) (i .multi) (i .sampled) (i .format)
+localShape Sampler = sampler
+localShape (PointerToBindingArray b n s) = bindingPointer b n (spaceNumber s) (spaceAccess s)
+localShape (BindingArray b n) = bindingArray b n
+localShape AccelerationStructure = accelerationStructure
+localShape RayQuery = rayQuery
 
 -- a key
 abbrev pub keyOf : LookupType → Key
 keyOf (Handle h) = entry h
-keyOf (Local l) = shape (shapeOf l)
+keyOf (Local l) = shape (localShape l)
 
 -- a value's key, of its size, its scalar's code and its class
-abbrev pub valueKey : VectorSize → ℕ → PointerClass → ℕ
+abbrev pub valueKey : VectorSize → ℕ → PointerSpace → ℕ
 valueKey One k Nowhere = bytesKey 1 k 0 0 0 0 0 0
 valueKey (Many n) k Nowhere = bytesKey 2 k n 0 0 0 0 0
 valueKey One k (Class c) = bytesKey 5 k c 0 0 0 0 0
 valueKey (Many n) k (Class c) = bytesKey 6 k c n 0 0 0 0
 
 -- the fields of a value's key are digits
-abbrev pub SmallValue : VectorSize → ℕ → PointerClass → Type 0
+abbrev pub SmallValue : VectorSize → ℕ → PointerSpace → Type 0
 SmallValue One k Nowhere = Bytes k 0 0 0 0 0 0
 SmallValue (Many n) k Nowhere = Bytes k n 0 0 0 0 0
 SmallValue One k (Class c) = Bytes k c 0 0 0 0 0
 SmallValue (Many n) k (Class c) = Bytes k c n 0 0 0 0
 
 -- the type that a shape names
-abbrev pub innerOf : Inner → Option Key
-innerOf Bare = none
-innerOf (Named t) = some (keyOf t)
+abbrev pub innerKey : Inner → Option Key
+innerKey Bare = none
+innerKey (Named t) = some (keyOf t)
 
 -- the length that a shape names
 abbrev pub lengthOf : Length → Option ℕ

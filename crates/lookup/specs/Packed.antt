@@ -34,9 +34,9 @@ packedShape (bindingArray b n) = baseKey 11 b n 0 0
 packedShape (bindingPointer b n s a) = baseKey 12 b n s a
 
 -- a key as one number
-abbrev pub packed : Key → ℕ
-packed (entry h) = baseKey 0 h 0 0 0
-packed (shape l) = packedShape l
+abbrev pub packedKey : Key → ℕ
+packedKey (entry h) = baseKey 0 h 0 0 0
+packedKey (shape l) = packedShape l
 
 -- ---- keys whose fields are digits
 
@@ -51,7 +51,7 @@ pub record Bytes (k a b c d e f : ℕ) : Type 0 where
   pub small-f : f < 256
 
 -- the fields of a baseKey are digits
-pub record Base (base size space access : ℕ) : Type 0 where
+pub record SmallBase (base size space access : ℕ) : Type 0 where
   pub small-base : base < 65536
   pub small-size : size < 4294967296
   pub small-space : space < 8
@@ -62,17 +62,17 @@ abbrev pub SmallShape : Shape → Type 0
 SmallShape (scalar k) = Bytes (code k) 0 0 0 0 0 0
 SmallShape (vector n k) = Bytes (code k) n 0 0 0 0 0
 SmallShape (matrix c r w) = Bytes 0 c r w 0 0 0
-SmallShape (pointer b c) = Base b c 0 0
+SmallShape (pointer b c) = SmallBase b c 0 0
 SmallShape (valuePointer one k c) = Bytes (code k) c 0 0 0 0 0
 SmallShape (valuePointer (many n) k c) = Bytes (code k) c n 0 0 0 0
 SmallShape (image k d p a m s f) = Bytes (code k) d p a m s f
 SmallShape sampler = Unit
 SmallShape accelerationStructure = Unit
 SmallShape rayQuery = Unit
-SmallShape (bindingArray b n) = Base b n 0 0
-SmallShape (bindingPointer b n s a) = Base b n s a
+SmallShape (bindingArray b n) = SmallBase b n 0 0
+SmallShape (bindingPointer b n s a) = SmallBase b n s a
 
 -- a key's fields are digits
 abbrev pub Small : Key → Type 0
-Small (entry h) = Base h 0 0 0
+Small (entry h) = SmallBase h 0 0 0
 Small (shape l) = SmallShape l

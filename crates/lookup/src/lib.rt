@@ -27,8 +27,8 @@ ghost use Rattle.definition.specs.Finding.{kindCapabilities, formatCapabilities
 ghost use Rattle.definition.specs.Instructions.{words};
 ghost use Rattle.spirv.specs.Put.{Put};
 ghost use Rattle.kinds.specs.Numbers.{kindNumber};
-ghost use Rattle.lookup.specs.Local.{shapeOf, keyOf, valueKey, SmallValue, innerOf, lengthOf, asList, integerCapabilities};
-ghost use Rattle.lookup.specs.Packed.{code, bytesKey, baseKey, packedShape, packed, Bytes, Base, SmallShape, Small};
+ghost use Rattle.lookup.specs.Local.{localShape, keyOf, valueKey, SmallValue, innerKey, lengthOf, asList, integerCapabilities};
+ghost use Rattle.lookup.specs.Packed.{code, bytesKey, baseKey, packedShape, packedKey, Bytes, SmallBase, SmallShape, Small};
 
 // `Option<VectorSize>`, the size of a `LocalType::Value`: one scalar, or a vector of so many.
 pub enum VectorSize {
@@ -37,7 +37,7 @@ pub enum VectorSize {
 }
 
 // `Option<spirv::StorageClass>`, where the value that a `LocalType::Value` points to lies; nowhere if it is the value itself.
-pub enum PointerClass {
+pub enum PointerSpace {
     Nowhere,
     Class(u8),
 }
@@ -61,7 +61,7 @@ pub enum LocalType {
         size: VectorSize,
         kind: ScalarKind,
         width: u8,
-        class: PointerClass,
+        class: PointerSpace,
     },
     Matrix {
         columns: u8,
@@ -190,7 +190,7 @@ fn bytes_key(tag: u64, k: u64, a: u8, b: u8, c: u8, d: u8, e: u8, f: u8) -> u64
 // The key of an entry, or of a shape over an entry.
 fn base_key(tag: u64, base: u16, size: u32, space: u8, access: u8) -> u64
     requires { ⌜ (tag < 16) × (space < 8) ⌝ }
-    ensures { λ r. ⌜ (r ≡ baseKey tag base size space access) × Base base size space access ⌝ }
+    ensures { λ r. ⌜ (r ≡ baseKey tag base size space access) × SmallBase base size space access ⌝ }
 {
     tag
         + 16
@@ -199,16 +199,16 @@ fn base_key(tag: u64, base: u16, size: u32, space: u8, access: u8) -> u64
 }
 
 // The key of a scalar, a vector or a pointer to either; k is the scalar's code.
-fn value_key(size: VectorSize, k: u64, class: PointerClass) -> u64
+fn value_key(size: VectorSize, k: u64, class: PointerSpace) -> u64
     requires { ⌜ k < 1024 ⌝ }
     ensures { λ r. ⌜ (r ≡ valueKey size k class) × SmallValue size k class ⌝ }
 {
     match class {
-        PointerClass::Nowhere => match size {
+        PointerSpace::Nowhere => match size {
             VectorSize::One => bytes_key(1, k, 0, 0, 0, 0, 0, 0),
             VectorSize::Many(n) => bytes_key(2, k, n, 0, 0, 0, 0, 0),
         },
-        PointerClass::Class(c) => match size {
+        PointerSpace::Class(c) => match size {
             VectorSize::One => bytes_key(5, k, c, 0, 0, 0, 0, 0),
             VectorSize::Many(n) => bytes_key(6, k, c, n, 0, 0, 0, 0),
         },
@@ -216,10 +216,10 @@ fn value_key(size: VectorSize, k: u64, class: PointerClass) -> u64
 }
 
 // The key of a shape.
-pub fn local_key(l: LocalType) -> u64
-    ensures { λ r. ⌜ (r ≡ packedShape (shapeOf l)) × SmallShape (shapeOf l) ⌝ }
+pub fn local_key(local: LocalType) -> u64
+    ensures { λ r. ⌜ (r ≡ packedShape (localShape local)) × SmallShape (localShape local) ⌝ }
 {
-    match l {
+    match local {
         LocalType::Value {
             size,
             kind,
@@ -260,17 +260,17 @@ pub fn local_key(l: LocalType) -> u64
 }
 
 // The key of an entry.
-pub fn handle_key(h: u16) -> u64
-    ensures { λ r. ⌜ (r ≡ packed (entry h)) × Small (entry h) ⌝ }
+pub fn handle_key(handle: u16) -> u64
+    ensures { λ r. ⌜ (r ≡ packedKey (entry handle)) × Small (entry handle) ⌝ }
 {
-    base_key(0, h, 0, 0, 0)
+    base_key(0, handle, 0, 0, 0)
 }
 
 // The number under which a type is looked up.
-pub fn key(t: LookupType) -> u64
-    ensures { λ r. ⌜ (r ≡ packed (keyOf t)) × Small (keyOf t) ⌝ }
+pub fn key(ty: LookupType) -> u64
+    ensures { λ r. ⌜ (r ≡ packedKey (keyOf ty)) × Small (keyOf ty) ⌝ }
 {
-    match t {
+    match ty {
         LookupType::Handle(h) => handle_key(h),
         LookupType::Local(l) => local_key(l),
     }
@@ -279,30 +279,30 @@ pub fn key(t: LookupType) -> u64
 // ---- what a shape's instruction names
 
 // The type: a vector's scalar, a matrix's column, what a pointer points to, an image's sampled type, an array's base.
-pub fn inner_of(l: LocalType) -> Inner
-    ensures { λ r. ⌜ innerOf r ≡ inner (shapeOf l) ⌝ }
+pub fn inner_type(local: LocalType) -> Inner
+    ensures { λ r. ⌜ innerKey r ≡ inner (localShape local) ⌝ }
 {
-    match l {
+    match local {
         LocalType::Value {
             size,
             kind,
             width,
             class,
         } => match class {
-            PointerClass::Nowhere => match size {
+            PointerSpace::Nowhere => match size {
                 VectorSize::One => Inner::Nothing,
                 VectorSize::Many(_) => Inner::Of(LookupType::Local(LocalType::Value {
                     size: VectorSize::One,
                     kind,
                     width,
-                    class: PointerClass::Nowhere,
+                    class: PointerSpace::Nowhere,
                 })),
             },
-            PointerClass::Class(_) => Inner::Of(LookupType::Local(LocalType::Value {
+            PointerSpace::Class(_) => Inner::Of(LookupType::Local(LocalType::Value {
                 size,
                 kind,
                 width,
-                class: PointerClass::Nowhere,
+                class: PointerSpace::Nowhere,
             })),
         },
         LocalType::Matrix {
@@ -314,7 +314,7 @@ pub fn inner_of(l: LocalType) -> Inner
                 size: VectorSize::Many(rows),
                 kind: ScalarKind::Float,
                 width,
-                class: PointerClass::Nowhere,
+                class: PointerSpace::Nowhere,
             }))
         }
         LocalType::Pointer { base, class: _ } => Inner::Of(LookupType::Handle(base)),
@@ -324,7 +324,7 @@ pub fn inner_of(l: LocalType) -> Inner
                 size: VectorSize::One,
                 kind,
                 width: 4,
-                class: PointerClass::Nowhere,
+                class: PointerSpace::Nowhere,
             }))
         }
         LocalType::Sampler => Inner::Nothing,
@@ -340,21 +340,21 @@ pub fn inner_of(l: LocalType) -> Inner
 }
 
 // The length, which is declared as a literal of its own.
-pub fn length_of(l: LocalType) -> Length
-    ensures { λ r. ⌜ lengthOf r ≡ sized (shapeOf l) ⌝ }
+pub fn length_of(local: LocalType) -> Length
+    ensures { λ r. ⌜ lengthOf r ≡ sized (localShape local) ⌝ }
 {
-    match l {
+    match local {
         LocalType::Value {
             size,
             kind: _,
             width: _,
             class,
         } => match class {
-            PointerClass::Nowhere => match size {
+            PointerSpace::Nowhere => match size {
                 VectorSize::One => Length::Nothing,
                 VectorSize::Many(_) => Length::Nothing,
             },
-            PointerClass::Class(_) => Length::Nothing,
+            PointerSpace::Class(_) => Length::Nothing,
         },
         LocalType::Matrix {
             columns: _,
@@ -458,17 +458,17 @@ fn dim_capability(d: u8, arrayed: u8, sampled: u8) -> u32
 }
 
 // What a shape uses besides the types that it names.
-pub fn capabilities_of(l: LocalType) -> Capabilities
-    ensures { λ r. ⌜ asList (r .first) ++ asList (r .second) ≡ capabilitiesOf (shapeOf l) ⌝ }
+pub fn capabilities_of(local: LocalType) -> Capabilities
+    ensures { λ r. ⌜ asList (r .first) ++ asList (r .second) ≡ capabilitiesOf (localShape local) ⌝ }
 {
-    match l {
+    match local {
         LocalType::Value {
             size,
             kind,
             width,
             class,
         } => match class {
-            PointerClass::Nowhere => match size {
+            PointerSpace::Nowhere => match size {
                 VectorSize::One => Capabilities {
                     first: 0,
                     second: kind_capability(kind, width),
@@ -478,7 +478,7 @@ pub fn capabilities_of(l: LocalType) -> Capabilities
                     second: 0,
                 },
             },
-            PointerClass::Class(_) => Capabilities {
+            PointerSpace::Class(_) => Capabilities {
                 first: 0,
                 second: 0,
             },
@@ -542,21 +542,21 @@ fn put_scalar(sink: &mut [u32], kind: ScalarKind, width: u8, id: u32, x: u32, y:
 }
 
 // The end of `write_type_declaration_local`: the instruction, put into what is left of the section.
-pub fn put_shape(sink: &mut [u32], l: LocalType, id: u32, x: u32, y: u32) -> usize
-    ensures { λ r. ⌜ Put (words (typeOf (shapeOf l) id x y)) (now (sink .entry)) (now (sink .exit)) r ⌝ }
+pub fn put_shape(sink: &mut [u32], local: LocalType, id: u32, x: u32, y: u32) -> usize
+    ensures { λ r. ⌜ Put (words (typeOf (localShape local) id x y)) (now (sink .entry)) (now (sink .exit)) r ⌝ }
 {
-    match l {
+    match local {
         LocalType::Value {
             size,
             kind,
             width,
             class,
         } => match class {
-            PointerClass::Nowhere => match size {
+            PointerSpace::Nowhere => match size {
                 VectorSize::One => put_scalar(sink, kind, width, id, x, y),
                 VectorSize::Many(n) => type_vector(sink, id, x, n as u32),
             },
-            PointerClass::Class(c) => type_pointer(sink, id, c as u32, x),
+            PointerSpace::Class(c) => type_pointer(sink, id, c as u32, x),
         },
         LocalType::Matrix {
             columns,

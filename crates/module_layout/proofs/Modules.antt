@@ -19,11 +19,11 @@ use Rattle.spirv.specs.Put.{Put}
 use Rattle.spirv.proofs.Puts.{Begun, more, part, back, behind}
 use Rattle.spirv.specs.Ids.{low}
 use Rattle.writer.specs.Regions.{Section, names, annotations, declarations, sectionAt, used}
-use Rattle.writer.specs.Cost.{nothing}
+use Rattle.writer.specs.Cost.{noCost}
 use Rattle.writer.specs.Held.{Held, RoomFor}
 use Rattle.writer.specs.declared.Writer.{Writer}
 use Rattle.module_layout.specs.declared.Answer.the-variants.{Written, Refused}
-use Rattle.module_layout.specs.Finished.{Front, Roomy, countOf, laidOut, wordsIn, Finished}
+use Rattle.module_layout.specs.Finished.{Front, Roomy, moduleCount, laidOut, moduleWordsIn, Finished}
 use Rattle.module_layout.proofs.Capabilities.{all-append, caps-length}
 
 -- ---- words of 32 bits
@@ -46,7 +46,7 @@ module-is : (s : State) → moduleWords s
 unfolding moduleWords instructions
 module-is s = simp all-append
 
-pub same-words : (w : Writer) (T S : List ℕ) (s : State) → Held w T S s → every isWord (moduleWords s) ≡ true → wordsIn w S (boundOf s) ≡ moduleWords s
+pub same-words : (w : Writer) (T S : List ℕ) (s : State) → Held w T S s → every isWord (moduleWords s) ≡ true → moduleWordsIn w S (boundOf s) ≡ moduleWords s
 same-words w T S s h fits =
     let cs = allWords (capabilityInstructions (s .capabilities)) in
     let ns = allWords (s .names) in
@@ -62,7 +62,7 @@ same-words w T S s h fits =
 
 -- ---- how much lies in the regions
 
-module _ (w : Writer) (S : List ℕ) (room : RoomFor nothing w S) where
+module _ (w : Writer) (S : List ℕ) (room : RoomFor noCost w S) where
   pub listed : length (take (w .capabilities) S) ≡ w .capabilities
   listed = length-take-le (w .capabilities) S (omega (arith, room .in-list, room .in-capabilities))
 
@@ -74,7 +74,7 @@ module _ (w : Writer) (S : List ℕ) (room : RoomFor nothing w S) where
   taken : (b : Section) → length (take (used b w) (drop (sectionAt b w) S)) ≡ used b w
   taken b = length-take-le (used b w) (drop (sectionAt b w) S) (in-region b)
 
-  pub count-is : (bound : ℕ) → length (wordsIn w S bound) ≡ countOf w
+  pub count-is : (bound : ℕ) → length (moduleWordsIn w S bound) ≡ moduleCount w
   count-is bound = simp (length-append, caps-length, listed, taken names, taken annotations, taken declarations) (omega arith)
 
 -- ---- one section behind the other
@@ -94,13 +94,13 @@ front-put bound cs out room y z m k p q = record {
 
 -- what the calls lean on: the sections lie in their regions, and behind a place there is room for them in a buffer of n words
 pub record Placed (w : Writer) (S : List ℕ) (at n : ℕ) : Type 0 where
-  pub room : RoomFor nothing w S
+  pub room : RoomFor noCost w S
   pub few : w .bytes ≤ 65536
   pub start : at ≡ 5 + 2 * w .capabilities
-  pub most : countOf w ≤ n
+  pub most : moduleCount w ≤ n
 
 -- it holds behind the front, and of the buffer as it comes back from each section's writer
-module _ (w : Writer) (S out : List ℕ) (ready : Roomy w S × (countOf w ≤ length out)) (bound at : ℕ) (y : List ℕ)
+module _ (w : Writer) (S out : List ℕ) (ready : Roomy w S × (moduleCount w ≤ length out)) (bound at : ℕ) (y : List ℕ)
     (f : Front bound (take (w .capabilities) S) out y at) (k : length y ≡ length out) where
   pub placed : Placed w S at (length y)
   placed = record {
@@ -130,12 +130,12 @@ module _ (w : Writer) (S out : List ℕ) (ready : Roomy w S × (countOf w ≤ le
           let p = placed-3 in
           back-length (back (back y at z) (at + w .names) z′) (at + w .names + w .annotations) z″ (omega (arith, p .start, p .most)) l″ ∙ annotations-back ∙ k
 
-pub module-put : (w : Writer) (S : List ℕ) (bound : ℕ) (out : List ℕ) → RoomFor nothing w S → countOf w ≤ length out
+pub module-put : (w : Writer) (S : List ℕ) (bound : ℕ) (out : List ℕ) → RoomFor noCost w S → moduleCount w ≤ length out
     → (y z3 z4 z5 : List ℕ) (at m3 m4 m5 : ℕ) → Front bound (take (w .capabilities) S) out y at
     → Put (take (w .names) (drop (sectionAt names w) S)) (part y at) z3 m3
     → Put (take (w .annotations) (drop (sectionAt annotations w) S)) (part (back y at z3) (at + w .names)) z4 m4
     → Put (take (w .declarations) (drop (sectionAt declarations w) S)) (part (back (back y at z3) (at + w .names) z4) (at + w .names + w .annotations)) z5 m5
-    → Put (wordsIn w S bound) out (back (back (back y at z3) (at + w .names) z4) (at + w .names + w .annotations) z5) (at + w .names + w .annotations + w .declarations)
+    → Put (moduleWordsIn w S bound) out (back (back (back y at z3) (at + w .names) z4) (at + w .names + w .annotations) z5) (at + w .names + w .annotations + w .declarations)
 module-put w S bound out room fits y z3 z4 z5 at m3 m4 m5 f q3 q4 q5 =
     let cs = take (w .capabilities) S in
     let l = listed w S room in
@@ -151,9 +151,9 @@ module _ (w : Writer) (S out : List ℕ) where
   pub passes : boundMost ≤ w .idgen .last → Finished w S out (Refused 15) out
   passes h = record { says = λ p T held fits. simp (lt-leb (boundOf (p .state)) boundMost (omega (arith, held .last))); counted = tt }
 
-  module _ (low : w .idgen .last < boundMost) (room : RoomFor nothing w S) where
+  module _ (low : w .idgen .last < boundMost) (room : RoomFor noCost w S) where
     -- 16
-    pub short : length out < countOf w → Finished w S out (Refused 16) out
+    pub short : length out < moduleCount w → Finished w S out (Refused 16) out
     short h = record {
       says = λ p T held fits.
           let e = same-words w T S (p .state) held (fits (omega (arith, held .last))) in
@@ -162,12 +162,12 @@ module _ (w : Writer) (S out : List ℕ) where
       counted = tt;
     }
 
-    pub written : (bound n m : ℕ) (after : List ℕ) → bound ≡ w .idgen .last + 1 → n ≡ countOf w → n ≤ length out → w .bytes ≤ 65536 → Put (wordsIn w S bound) out after m
+    pub written : (bound n m : ℕ) (after : List ℕ) → bound ≡ w .idgen .last + 1 → n ≡ moduleCount w → n ≤ length out → w .bytes ≤ 65536 → Put (moduleWordsIn w S bound) out after m
         → Finished w S out (Written n bound) after
     written bound n m after eb en h few q = record {
       says = λ p T held fits.
           let eq : bound ≡ boundOf (p .state) = omega (arith, held .last) in
-          let e : wordsIn w S bound ≡ moduleWords (p .state) = rw eq (same-words w T S (p .state) held (fits (omega (arith, held .last)))) in
+          let e : moduleWordsIn w S bound ≡ moduleWords (p .state) = rw eq (same-words w T S (p .state) held (fits (omega (arith, held .last)))) in
           let l : length (moduleWords (p .state)) ≡ n = omega (arith, ap length e, count-is w S room bound) in
           let f : after ≡ put (moduleWords (p .state)) out = q .words ∙ ap (λ (ws : List ℕ). put ws out) e in
           simp (le-leb (boundOf (p .state)) boundMost (omega (arith, held .last)), le-leb (length (moduleWords (p .state))) (length out) (omega arith)) cc;

@@ -12,7 +12,7 @@ use Rattle.definition.specs.Tests.{fit}
 use Rattle.definition.specs.Operations.{Progress, Declared, boundMost, boundTest, declaredOf}
 use Rattle.definition.specs.Operations.{Answer as Meant}
 use Rattle.spirv.specs.Put.{Put}
-use Rattle.writer.specs.Cost.{nothing}
+use Rattle.writer.specs.Cost.{noCost}
 use Rattle.writer.specs.Held.{Held, RoomFor, Sections, sectionsOf}
 use Rattle.writer.specs.declared.Writer.{Writer}
 use Rattle.module_layout.specs.declared.Answer.{Answer}
@@ -31,15 +31,15 @@ declaredAs r b = record { answer = answerOf r; buffer = b }
 -- ---- the module as it lies in the sections
 
 -- how many words it has
-abbrev pub countOf : Writer → ℕ
-countOf w = 5 + 2 * w .capabilities + w .names + w .annotations + w .declarations
+abbrev pub moduleCount : Writer → ℕ
+moduleCount w = 5 + 2 * w .capabilities + w .names + w .annotations + w .declarations
 
 -- the header and the four sections, one behind the other
 abbrev pub laidOut : ℕ → Sections → List ℕ
 laidOut bound c = (((header bound ++ allWords (capabilityInstructions (c .capabilities))) ++ c .names) ++ c .annotations) ++ c .declarations
 
-abbrev pub wordsIn : Writer → List ℕ → ℕ → List ℕ
-wordsIn w S bound = laidOut bound (sectionsOf w S)
+abbrev pub moduleWordsIn : Writer → List ℕ → ℕ → List ℕ
+moduleWordsIn w S bound = laidOut bound (sectionsOf w S)
 
 -- the header and the capabilities were put at the front of a buffer, and n is the place behind them
 pub record Front (bound : ℕ) (numbers before after : List ℕ) (n : ℕ) : Type 0 where
@@ -48,7 +48,7 @@ pub record Front (bound : ℕ) (numbers before after : List ℕ) (n : ℕ) : Typ
 
 -- the sections lie in their regions, and these are so small that their lengths add up to a number of the machine's
 pub record Roomy (w : Writer) (S : List ℕ) : Type 0 where
-  pub room : RoomFor nothing w S
+  pub room : RoomFor noCost w S
   pub few : w .bytes ≤ 65536
 
 -- ---- the promise: whatever progress is held, answer and buffer are what the definition makes of it
@@ -58,11 +58,11 @@ abbrev pub Worded : State → Type 0
 Worded s = boundOf s ≤ boundMost → every isWord (moduleWords s) ≡ true
 
 -- a word count has 32 bits
-abbrev pub Counted : Answer → Type 0
-Counted (Written n bound) = n < 4294967296
-Counted (Refused n) = Unit
+abbrev pub CountFits : Answer → Type 0
+CountFits (Written n bound) = n < 4294967296
+CountFits (Refused n) = Unit
 
 pub record Finished (w : Writer) (S before : List ℕ) (r : Answer) (after : List ℕ) : Type 0 where
   pub says : (p : Progress) (T : List ℕ) → Held w T S (p .state) → Worded (p .state)
       → declaredAs r after ≡ declaredOf before (boundTest (fit p))
-  pub counted : Counted r
+  pub counted : CountFits r

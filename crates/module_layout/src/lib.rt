@@ -14,7 +14,7 @@ ghost use lib.ListN.{length, take, drop};
 ghost use Rattle.definition.specs.Instructions.{allWords};
 ghost use Rattle.definition.specs.State.{capabilityInstructions};
 ghost use Rattle.spirv.specs.Put.{Put};
-ghost use Rattle.module_layout.specs.Finished.{Front, Roomy, countOf, wordsIn, Finished};
+ghost use Rattle.module_layout.specs.Finished.{Front, Roomy, moduleCount, moduleWordsIn, Finished};
 
 // What Declare answers: the word count and the bound, or the number of the refusal.
 pub enum Answer {
@@ -66,8 +66,8 @@ fn put_section(left: &mut [u32], sections: &[u32], start: usize, n: usize) -> us
 
 // How many words the module has.
 fn module_count(w: Writer) -> usize
-    requires { ⌜ countOf w < 4294967296 ⌝ }
-    ensures { λ r. ⌜ r ≡ countOf w ⌝ }
+    requires { ⌜ moduleCount w < 4294967296 ⌝ }
+    ensures { λ r. ⌜ r ≡ moduleCount w ⌝ }
 {
     HEADER_WORDS + CAPABILITY_WORDS * w.capabilities + w.names + w.annotations + w.declarations
 }
@@ -75,8 +75,8 @@ fn module_count(w: Writer) -> usize
 // The header and the four sections, in a buffer that has room for them: each section's writer is lent what is left from the
 // current place on.
 fn put_module(out: &mut [u32], sections: &[u32], w: Writer, bound: u32) -> usize
-    requires { ⌜ Roomy w (now sections) × (countOf w ≤ length (now out)) ⌝ }
-    ensures { λ r. ⌜ Put (wordsIn w (now (sections .entry)) bound) (now (out .entry)) (now (out .exit)) r ⌝ }
+    requires { ⌜ Roomy w (now sections) × (moduleCount w ≤ length (now out)) ⌝ }
+    ensures { λ r. ⌜ Put (moduleWordsIn w (now (sections .entry)) bound) (now (out .entry)) (now (out .exit)) r ⌝ }
 {
     let k = w.capabilities;
     let first = put_front(out, bound, &sections[..k]);

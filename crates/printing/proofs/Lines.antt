@@ -6,7 +6,7 @@ use native.Mathlib.Numerals.{add-one}
 use native.Mathlib.Omega.{arith}
 use lib.ListN.{length, getD, take, set, length-append}
 use lib.Seq.{sets, take-suc, length-take-le}
-use Rattle.printing.specs.Text.{newline, digitOf, digits, lineOf, linesOf, placesOf, refused, refusalOf, Put, Printed}
+use Rattle.printing.specs.Text.{newline, digitOf, digits, lineOf, linesOf, digitCount, refusedText, refusalOf, PutText, Printed}
 use Rattle.printing.proofs.Runs.{sets-append, behind, ahead, printed}
 
 -- ---- digits
@@ -63,17 +63,17 @@ all-lines l ws text i n e k h room =
 
 -- ---- a refusal's line, put in three steps
 
-pub refusal : (l l₁ l₂ : List ℕ) (n k at : ℕ) → Put refused l 0 l₁ at → k ≡ placesOf n → k ≤ 3 → l₂ ≡ sets l₁ at (digits 10 k n) → 12 ≤ length l
+pub refusal : (l l₁ l₂ : List ℕ) (n k at : ℕ) → PutText refusedText l 0 l₁ at → k ≡ digitCount n → k ≤ 3 → l₂ ≡ sets l₁ at (digits 10 k n) → 12 ≤ length l
     → Printed (refusalOf n) l (set l₂ (at + k) newline) (at + k + 1)
 refusal l l₁ l₂ n k at p q small e room =
     let d = digits 10 k n ++ (newline ∷ []) in
     let m : length d ≡ k + 1 = simp length-append (omega (arith, digits-length 10 k n)) in
-    let f : set l₂ (at + k) newline ≡ sets l 0 (refused ++ d) =
+    let f : set l₂ (at + k) newline ≡ sets l 0 (refusedText ++ d) =
     ap (λ (z : List ℕ). set z (at + k) newline) e
     ∙ ended l₁ at 10 k n (at + k) refl
     ∙ ap (λ (z : List ℕ). sets z at d) (p .text)
-    ∙ ap (λ (j : ℕ). sets (sets l 0 refused) j d) (p .next)
-    ∙ sym (sets-append l 0 refused d) in
-    let r : Printed (refused ++ d) l (set l₂ (at + k) newline) (at + k + 1) =
-    printed (refused ++ d) l (set l₂ (at + k) newline) (at + k + 1) f (omega (arith, p .next)) (omega (arith, p .next)) in
-    subst (λ (j : ℕ). Printed (refused ++ (digits 10 j n ++ (newline ∷ []))) l (set l₂ (at + k) newline) (at + k + 1)) q r
+    ∙ ap (λ (j : ℕ). sets (sets l 0 refusedText) j d) (p .next)
+    ∙ sym (sets-append l 0 refusedText d) in
+    let r : Printed (refusedText ++ d) l (set l₂ (at + k) newline) (at + k + 1) =
+    printed (refusedText ++ d) l (set l₂ (at + k) newline) (at + k + 1) f (omega (arith, p .next)) (omega (arith, p .next)) in
+    subst (λ (j : ℕ). Printed (refusedText ++ (digits 10 j n ++ (newline ∷ []))) l (set l₂ (at + k) newline) (at + k + 1)) q r

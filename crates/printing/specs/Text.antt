@@ -1,5 +1,5 @@
 -- The text that the programs print, as bytes (ASCII). Document 01: "prints one word a line, eight lowercase hexadecimal
--- digits, or `refused N`".
+-- digits, or `refusedText N`".
 use Prim.Native.Nat.{ℕ, zero, suc, _/_, _%_, _+_}
 use mathlib.Core.Path.{_≡_}
 use mathlib.Core.Bool.{Bool, true, false}
@@ -32,26 +32,26 @@ linesOf [] = []
 linesOf (w ∷ ws) = lineOf w ++ linesOf ws
 
 -- how many decimal digits a number below 1000 has
-abbrev pub placesOf : ℕ → ℕ
-placesOf n = pick (ltb n 10) 1 (pick (ltb n 100) 2 3)
+abbrev pub digitCount : ℕ → ℕ
+digitCount n = pick (ltb n 10) 1 (pick (ltb n 100) 2 3)
 
--- `refused` and a space
-abbrev pub refused : List ℕ
-refused = 114 ∷ 101 ∷ 102 ∷ 117 ∷ 115 ∷ 101 ∷ 100 ∷ 32 ∷ []
+-- `refusedText` and a space
+abbrev pub refusedText : List ℕ
+refusedText = 114 ∷ 101 ∷ 102 ∷ 117 ∷ 115 ∷ 101 ∷ 100 ∷ 32 ∷ []
 
--- `refused N`
+-- `refusedText N`
 abbrev pub refusalOf : ℕ → List ℕ
-refusalOf n = refused ++ (digits 10 (placesOf n) n ++ (newline ∷ []))
+refusalOf n = refusedText ++ (digits 10 (digitCount n) n ++ (newline ∷ []))
 
 -- `yes` or `no`
-abbrev pub answerOf : Bool → List ℕ
-answerOf true = 121 ∷ 101 ∷ 115 ∷ newline ∷ []
-answerOf false = 110 ∷ 111 ∷ newline ∷ []
+abbrev pub yesOrNo : Bool → List ℕ
+yesOrNo true = 121 ∷ 101 ∷ 115 ∷ newline ∷ []
+yesOrNo false = 110 ∷ 111 ∷ newline ∷ []
 
 -- ---- what a writer into a lent text promises
 
 -- the bytes were put at a place, one after the other, and r is the place behind them
-pub record Put (bytes before : List ℕ) (at : ℕ) (after : List ℕ) (r : ℕ) : Type 0 where
+pub record PutText (bytes before : List ℕ) (at : ℕ) (after : List ℕ) (r : ℕ) : Type 0 where
   pub text : after ≡ sets before at bytes
   pub next : r ≡ at + length bytes
 

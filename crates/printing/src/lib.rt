@@ -6,7 +6,7 @@ ghost use mathlib.Core.Path.{_≡_};
 ghost use Prim.Native.Nat.{_+_, _*_, _<_, _≤_};
 ghost use lib.ListN.{length, take};
 ghost use lib.Seq.{sets};
-ghost use Rattle.printing.specs.Text.{digitOf, digits, lineOf, linesOf, placesOf, refusalOf, answerOf, Put, Printed};
+ghost use Rattle.printing.specs.Text.{digitOf, digits, lineOf, linesOf, digitCount, refusalOf, yesOrNo, PutText, Printed};
 
 const NEWLINE: u8 = b'\n';
 
@@ -37,7 +37,7 @@ fn put_digits(text: &mut [u8], at: usize, base: u32, k: usize, n: u32)
 }
 
 // Puts a word's line at a place.
-fn put_word(text: &mut [u8], at: usize, w: u32)
+fn put_line(text: &mut [u8], at: usize, w: u32)
     requires { ⌜ at + 9 ≤ length (now text) ⌝ }
     ensures { λ _. ⌜ now (text .exit) ≡ sets (now (text .entry)) at (lineOf w) ⌝ }
 {
@@ -46,14 +46,14 @@ fn put_word(text: &mut [u8], at: usize, w: u32)
 }
 
 // Puts the first n words at the front of the text, a word a line, and says how many bytes they take.
-pub fn put_words(text: &mut [u8], words: &[u32], n: usize) -> usize
+pub fn put_lines(text: &mut [u8], words: &[u32], n: usize) -> usize
     requires { ⌜ (n ≤ length (now words)) × (9 * n ≤ length (now text)) ⌝ }
     ensures { λ r. ⌜ Printed (linesOf (take n (now (words .entry)))) (now (text .entry)) (now (text .exit)) r ⌝ }
     ensures { λ r. ⌜ r ≡ 9 * n ⌝ }
 {
     let mut i = 0;
     while i < n {
-        put_word(text, 9 * i, words[i]);
+        put_line(text, 9 * i, words[i]);
         i += 1;
     }
     9 * n
@@ -62,7 +62,7 @@ pub fn put_words(text: &mut [u8], words: &[u32], n: usize) -> usize
 // Puts bytes at a place, and says which place is behind them.
 fn put_bytes(text: &mut [u8], at: usize, bytes: &[u8]) -> usize
     requires { ⌜ at + length (now bytes) ≤ length (now text) ⌝ }
-    ensures { λ r. ⌜ Put (now (bytes .entry)) (now (text .entry)) at (now (text .exit)) r ⌝ }
+    ensures { λ r. ⌜ PutText (now (bytes .entry)) (now (text .entry)) at (now (text .exit)) r ⌝ }
 {
     let mut i = 0;
     while i < bytes.len() {
@@ -74,7 +74,7 @@ fn put_bytes(text: &mut [u8], at: usize, bytes: &[u8]) -> usize
 
 // How many decimal digits a number has.
 fn places(n: u8) -> usize
-    ensures { λ r. ⌜ r ≡ placesOf n ⌝ }
+    ensures { λ r. ⌜ r ≡ digitCount n ⌝ }
     ensures { λ r. ⌜ r ≤ 3 ⌝ }
 {
     if n < 10 {
@@ -96,9 +96,9 @@ pub fn put_refusal(text: &mut [u8], n: u8) -> usize
 }
 
 // Puts a line of yes or no at a place, and says which place is behind it.
-pub fn put_answer(text: &mut [u8], at: usize, yes: bool) -> usize
+pub fn put_yes_or_no(text: &mut [u8], at: usize, yes: bool) -> usize
     requires { ⌜ at + 4 ≤ length (now text) ⌝ }
-    ensures { λ r. ⌜ Put (answerOf yes) (now (text .entry)) at (now (text .exit)) r ⌝ }
+    ensures { λ r. ⌜ PutText (yesOrNo yes) (now (text .entry)) at (now (text .exit)) r ⌝ }
 {
     if yes {
         return put_bytes(text, at, b"yes\n");

@@ -23,11 +23,11 @@ abbrev pub remapFrom : List ℕ → ℕ → Remap
 remapFrom s at = remapFields (recordFrom s at .body) .value
 
 -- a type, of its record
-abbrev pub typeOf : Record → TypeEntry
-typeOf r = typeEntry r (typeFields (r .tag) (r .body) (nameEnd (r .body) 0) .value)
+abbrev pub typeOfRecord : Record → TypeEntry
+typeOfRecord r = typeEntry r (typeFields (r .tag) (r .body) (nameEnd (r .body) 0) .value)
 
 abbrev pub typeFrom : List ℕ → ℕ → TypeEntry
-typeFrom s at = typeOf (recordFrom s at)
+typeFrom s at = typeOfRecord (recordFrom s at)
 
 -- the first n types, of their places
 abbrev pub typesFrom : List ℕ → List ℕ → ℕ → List TypeEntry

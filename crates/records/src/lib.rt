@@ -43,29 +43,29 @@ pub struct Options {
 }
 
 // Tests 1, 2 and 3: the number of the first that fails, or 0.
-pub fn header_test(s: &[u8]) -> u8
-    ensures { λ r. ⌜ r ≡ headerTest (now (s .entry)) ⌝ }
+pub fn header_test(sheet: &[u8]) -> u8
+    ensures { λ r. ⌜ r ≡ headerTest (now (sheet .entry)) ⌝ }
 {
-    if s.len() < SHEET_LEAST {
+    if sheet.len() < SHEET_LEAST {
         return 1;
     }
-    if SHEET_MOST < s.len() {
+    if SHEET_MOST < sheet.len() {
         return 1;
     }
-    if fields::u8_at(s, 0) != 1 {
+    if fields::u8_at(sheet, 0) != 1 {
         return 2;
     }
-    if 4 <= fields::u8_at(s, 5) {
+    if 4 <= fields::u8_at(sheet, 5) {
         return 3;
     }
     0
 }
 
 // The options of a sheet, by its flags.
-pub fn options_of(s: &[u8]) -> Options
-    ensures { λ r. ⌜ optionsFrom r ≡ optionsOf (flagsOf (now (s .entry))) ⌝ }
+pub fn options_of(sheet: &[u8]) -> Options
+    ensures { λ r. ⌜ optionsFrom r ≡ optionsOf (flagsOf (now (sheet .entry))) ⌝ }
 {
-    let flags = fields::u8_at(s, 5);
+    let flags = fields::u8_at(sheet, 5);
     Options {
         debug: flags % 2 == 1,
         zeroing: flags / 2 % 2 == 1,
@@ -73,10 +73,10 @@ pub fn options_of(s: &[u8]) -> Options
 }
 
 // What is left of the sheet from a place on.
-pub fn rest_at(s: &[u8], at: usize) -> &[u8]
-    ensures { λ r. ⌜ now r ≡ drop at (now (s .entry)) ⌝ }
+pub fn rest_at(sheet: &[u8], at: usize) -> &[u8]
+    ensures { λ r. ⌜ now r ≡ drop at (now (sheet .entry)) ⌝ }
 {
-    fields::part(s, at, s.len())
+    fields::part(sheet, at, sheet.len())
 }
 
 // Test 4: whether no whole record stands at the front of what is left.
@@ -120,10 +120,10 @@ pub fn next_place(rest: &[u8], at: usize) -> usize
 }
 
 // Available 1, Remap 2, types 3, constants 4, globals 5; 0 is no tag.
-pub fn rank_of(t: u8) -> u8
-    ensures { λ r. ⌜ r ≡ tagRank t ⌝ }
+pub fn rank_of(tag: u8) -> u8
+    ensures { λ r. ⌜ r ≡ tagRank tag ⌝ }
 {
-    match t {
+    match tag {
         1 => 1,
         2 => 2,
         16..=28 => 3,
@@ -160,17 +160,17 @@ fn has_room(k: Counts, r: u8) -> bool
 }
 
 // Tests 5, 6 and 7 of a record of tag t: the number of the first that fails, or 0.
-pub fn place_test(k: Counts, t: u8) -> u8
-    ensures { λ r. ⌜ ((n : Seen) → Counted n k → r ≡ placeTest n t) ⌝ }
+pub fn place_test(counts: Counts, tag: u8) -> u8
+    ensures { λ r. ⌜ ((n : Seen) → Counted n counts → r ≡ placeTest n tag) ⌝ }
 {
-    let r = rank_of(t);
+    let r = rank_of(tag);
     if r == 0 {
         return 5;
     }
-    if out_of_order(k, r) {
+    if out_of_order(counts, r) {
         return 6;
     }
-    if !has_room(k, r) {
+    if !has_room(counts, r) {
         return 7;
     }
     0

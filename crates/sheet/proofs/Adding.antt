@@ -18,7 +18,7 @@ use Rattle.records.specs.Places.{Places, seenOf, Ample, WithinLimits, recordFro
 use Rattle.records.specs.declared.Counts.{Counts}
 use Rattle.definition.proofs.Truth.{pick-for, unless-zero, first-passed}
 use Rattle.sheet.specs.Hash.{HashFor, Hashed}
-use Rattle.sheet.specs.Holding.{typeNoted, notedAt, addCounts, Passed, Held}
+use Rattle.sheet.specs.Holding.{typeNoted, notedAt, addCounts, PassedAt, RecordHeld}
 use Rattle.sheet.specs.Reading.{Looked, Stored}
 use Rattle.sheet.proofs.Hashes.{hashed-more}
 
@@ -145,11 +145,11 @@ module _ (s : List ℕ) (p : Places) (k : Counts) (at : ℕ) (a : Ample p) (f : 
       (rw e (q .ranked)) (rw e (rank-most (recordFrom s at .tag))) (sym e) (rw e (q .room))
 
 -- what `hold` leaves, in slices of the same lengths
-pub held : (s : List ℕ) (p p′ : Places) (k k′ : Counts) (at r h : ℕ) → Passed s p k at → r ≡ tagRank (recordFrom s at .tag) → HashFor (recordFrom s at) h
+pub held : (s : List ℕ) (p p′ : Places) (k k′ : Counts) (at r h : ℕ) → PassedAt s p k at → r ≡ tagRank (recordFrom s at .tag) → HashFor (recordFrom s at) h
     → p′ ≡ notedAt p k r at h → k′ ≡ addCounts k r at
     → length (p′ .remaps) ≡ length (p .remaps) → length (p′ .types) ≡ length (p .types)
     → length (p′ .constants) ≡ length (p .constants) → length (p′ .globals) ≡ length (p .globals)
-    → Held s p k at p′ k′
+    → RecordHeld s p k at p′ k′
 held s p p′ k k′ at r h d er eh ep ek lr lt lc lg =
     let a = adds s p k at (d .ample) (d .few) (d .hashed) h eh (d .late) r er (placed-of (seenOf s p k) (recordFrom s at) (d .tested)) in
     let m = d .ample in

@@ -40,7 +40,7 @@ addCounts k r at = record {
 }
 
 -- the record at a place passed its tests, after what is held in p and k
-pub record Passed (s : List ℕ) (p : Places) (k : Counts) (at : ℕ) : Type 0 where
+pub record PassedAt (s : List ℕ) (p : Places) (k : Counts) (at : ℕ) : Type 0 where
   pub ample : Ample p
   pub few : WithinLimits k
   pub hashed : Hashed s (p .types) (k .types)
@@ -49,7 +49,7 @@ pub record Passed (s : List ℕ) (p : Places) (k : Counts) (at : ℕ) : Type 0 w
   pub tested : readingTest (seenOf s p k) (recordFrom s at) ≡ 0
 
 -- what is then held in p′ and k′ is what was held, with the record added
-pub record Held (s : List ℕ) (p : Places) (k : Counts) (at : ℕ) (p′ : Places) (k′ : Counts) : Type 0 where
+pub record RecordHeld (s : List ℕ) (p : Places) (k : Counts) (at : ℕ) (p′ : Places) (k′ : Counts) : Type 0 where
   pub ample : Ample p′
   pub few : WithinLimits k′
   pub hashed : Hashed s (p′ .types) (k′ .types)

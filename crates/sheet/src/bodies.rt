@@ -8,25 +8,25 @@ ghost use Rattle.definition.specs.Tests.{sameBytes};
 
 // Whether two bodies are the same up to q, if they are up to p. The bytes below p may be compared again, with those
 // behind them.
-pub fn same_up_to(a: &[u8], b: &[u8], p: usize, q: usize) -> bool
-    requires { ⌜ (q ≤ length (now a)) × ((q ≤ length (now b)) × (sameBytes (take p (now a)) (take p (now b)) ≡ true)) ⌝ }
-    ensures { λ r. ⌜ r ≡ sameBytes (take q (now (a .entry))) (take q (now (b .entry))) ⌝ }
+pub fn same_up_to(a: &[u8], body: &[u8], p: usize, q: usize) -> bool
+    requires { ⌜ (q ≤ length (now a)) × ((q ≤ length (now body)) × (sameBytes (take p (now a)) (take p (now body)) ≡ true)) ⌝ }
+    ensures { λ r. ⌜ r ≡ sameBytes (take q (now (a .entry))) (take q (now (body .entry))) ⌝ }
 {
     let mut j = q;
     while p < j {
         if 8 <= j {
             j -= 8;
-            if fields::whole_u64_at(a, j) != fields::whole_u64_at(b, j) {
+            if fields::whole_u64_at(a, j) != fields::whole_u64_at(body, j) {
                 return false;
             }
         } else if 4 <= j {
             j -= 4;
-            if fields::whole_u32_at(a, j) != fields::whole_u32_at(b, j) {
+            if fields::whole_u32_at(a, j) != fields::whole_u32_at(body, j) {
                 return false;
             }
         } else {
             j -= 1;
-            if a[j] != b[j] {
+            if a[j] != body[j] {
                 return false;
             }
         }

@@ -7,7 +7,7 @@ ghost use lib.ListN.{set};
 ghost use Rattle.definition.specs.Tests.{typesMost};
 ghost use Rattle.records.specs.Places.{placesOf, recordFrom, WithinLimits};
 ghost use Rattle.sheet.specs.Hash.{HashFor};
-ghost use Rattle.sheet.specs.Holding.{noCounts, typeNoted, notedAt, addCounts, Passed, Held};
+ghost use Rattle.sheet.specs.Holding.{noCounts, typeNoted, notedAt, addCounts, PassedAt, RecordHeld};
 
 pub fn nothing() -> Counts
     ensures { λ r. ⌜ r ≡ noCounts ⌝ }
@@ -102,15 +102,15 @@ pub fn hold(
     types: &mut [u32],
     constants: &mut [u32],
     globals: &mut [u32],
-    k: Counts,
+    counts: Counts,
     at: usize,
     hash: u32,
 ) -> Counts
-    requires { ⌜ Passed (now sheet) (placesOf (now remaps) (now types) (now constants) (now globals)) k at × HashFor (recordFrom (now sheet) at) hash ⌝ }
-    ensures { λ r. ⌜ Held (now (sheet .entry)) (placesOf (now (remaps .entry)) (now (types .entry)) (now (constants .entry)) (now (globals .entry))) k at (placesOf (now (remaps .exit)) (now (types .exit)) (now (constants .exit)) (now (globals .exit))) r ⌝ }
+    requires { ⌜ PassedAt (now sheet) (placesOf (now remaps) (now types) (now constants) (now globals)) counts at × HashFor (recordFrom (now sheet) at) hash ⌝ }
+    ensures { λ r. ⌜ RecordHeld (now (sheet .entry)) (placesOf (now (remaps .entry)) (now (types .entry)) (now (constants .entry)) (now (globals .entry))) counts at (placesOf (now (remaps .exit)) (now (types .exit)) (now (constants .exit)) (now (globals .exit))) r ⌝ }
 {
     let rest = records::rest_at(sheet, at);
     let rank = records::rank_of(records::tag_of(rest));
-    note(remaps, types, constants, globals, k, rank, at, hash);
-    added(k, rank, at)
+    note(remaps, types, constants, globals, counts, rank, at, hash);
+    added(counts, rank, at)
 }

@@ -40,14 +40,29 @@ fn entry_test(s: &[u8], remaps: &[u32], types: &[u32], k: Counts, t: u8, b: &[u8
 }
 
 // Tests 5 to 12 of the record at the front of what is left: the number of the first that fails, or 0.
-pub fn record_test(s: &[u8], remaps: &[u32], types: &[u32], k: Counts, rest: &[u8], hash: u32) -> u8
-    requires { ⌜ Stored (now s) (now remaps) (now types) k × HashFor (recordAt (now rest)) hash ⌝ }
-    ensures { λ r. ⌜ ((n : Seen) → Looked (now (s .entry)) (now (remaps .entry)) (now (types .entry)) k n → r ≡ readingTest n (recordAt (now (rest .entry)))) ⌝ }
+pub fn record_test(
+    sheet: &[u8],
+    remaps: &[u32],
+    types: &[u32],
+    counts: Counts,
+    rest: &[u8],
+    hash: u32,
+) -> u8
+    requires { ⌜ Stored (now sheet) (now remaps) (now types) counts × HashFor (recordAt (now rest)) hash ⌝ }
+    ensures { λ r. ⌜ ((n : Seen) → Looked (now (sheet .entry)) (now (remaps .entry)) (now (types .entry)) counts n → r ≡ readingTest n (recordAt (now (rest .entry)))) ⌝ }
 {
     let t = records::tag_of(rest);
-    let p = records::place_test(k, t);
+    let p = records::place_test(counts, t);
     if p != 0 {
         return p;
     }
-    entry_test(s, remaps, types, k, t, records::body_of(rest), hash)
+    entry_test(
+        sheet,
+        remaps,
+        types,
+        counts,
+        t,
+        records::body_of(rest),
+        hash,
+    )
 }

@@ -136,21 +136,21 @@ fn remap_read(s: &[u8], remaps: &[u32], n: usize, b: &[u8]) -> bool
 
 // Test 12 of a record of tag t and body b.
 pub fn is_repeated(
-    s: &[u8],
+    sheet: &[u8],
     remaps: &[u32],
     types: &[u32],
-    k: Counts,
-    t: u8,
-    b: &[u8],
+    counts: Counts,
+    tag: u8,
+    body: &[u8],
     hash: u32,
 ) -> bool
-    requires { ⌜ Stored (now s) (now remaps) (now types) k × HashFor (recordOf t (now b)) hash ⌝ }
-    ensures { λ r. ⌜ ((n : Seen) → Looked (now (s .entry)) (now (remaps .entry)) (now (types .entry)) k n → r ≡ repeated n (entryOf (recordOf t (now (b .entry))) .value)) ⌝ }
+    requires { ⌜ Stored (now sheet) (now remaps) (now types) counts × HashFor (recordOf tag (now body)) hash ⌝ }
+    ensures { λ r. ⌜ ((n : Seen) → Looked (now (sheet .entry)) (now (remaps .entry)) (now (types .entry)) counts n → r ≡ repeated n (entryOf (recordOf tag (now (body .entry))) .value)) ⌝ }
 {
-    match records::rank_of(t) {
+    match records::rank_of(tag) {
         1 => false,
-        2 => remap_read(s, remaps, k.remaps, b),
-        3 => type_read(s, types, k.types, t, b, hash),
+        2 => remap_read(sheet, remaps, counts.remaps, body),
+        3 => type_read(sheet, types, counts.types, tag, body, hash),
         4 => false,
         _ => false,
     }

@@ -23,14 +23,14 @@ fn literal_end(b: &[u8]) -> usize
     }
 }
 
-pub fn end_of(t: u8, b: &[u8]) -> usize
-    ensures { λ r. ⌜ r ≡ constantFields t (now (b .entry)) .end ⌝ }
+pub fn end_of(tag: u8, body: &[u8]) -> usize
+    ensures { λ r. ⌜ r ≡ constantFields tag (now (body .entry)) .end ⌝ }
 {
-    match t {
-        64 => literal_end(b),
+    match tag {
+        64 => literal_end(body),
         65 => 2,
         66 => 2,
-        67 => 4 + 2 * fields::u16_at(b, 2) as usize,
+        67 => 4 + 2 * fields::u16_at(body, 2) as usize,
         68 => 3,
         _ => 3,
     }
@@ -50,24 +50,24 @@ fn literal_fits(b: &[u8]) -> bool
     }
 }
 
-pub fn values_fit(t: u8, b: &[u8]) -> bool
-    ensures { λ r. ⌜ r ≡ expressionFits (constantFields t (now (b .entry)) .value) ⌝ }
+pub fn values_fit(tag: u8, body: &[u8]) -> bool
+    ensures { λ r. ⌜ r ≡ expressionFits (constantFields tag (now (body .entry)) .value) ⌝ }
 {
-    match t {
-        64 => literal_fits(b),
+    match tag {
+        64 => literal_fits(body),
         65 => true,
         66 => true,
         67 => true,
-        68 => size_fits(fields::u8_at(b, 0)),
-        _ => size_fits(fields::u8_at(b, 0)),
+        68 => size_fits(fields::u8_at(body, 0)),
+        _ => size_fits(fields::u8_at(body, 0)),
     }
 }
 
 // Whether the number at `at` is below `most`.
-pub fn one_below(b: &[u8], at: usize, most: usize) -> bool
-    ensures { λ r. ⌜ r ≡ below most (u16At (now (b .entry)) at ∷ []) ⌝ }
+pub fn one_below(body: &[u8], at: usize, most: usize) -> bool
+    ensures { λ r. ⌜ r ≡ below most (u16At (now (body .entry)) at ∷ []) ⌝ }
 {
-    (fields::u16_at(b, at) as usize) < most
+    (fields::u16_at(body, at) as usize) < most
 }
 
 // Whether each of a Compose's n parts is below `most`.
@@ -92,15 +92,15 @@ fn compose_read(b: &[u8], types: usize, constants: usize) -> bool
     one_below(b, 0, types) && parts_below(b, fields::u16_at(b, 2), constants)
 }
 
-pub fn read_already(t: u8, b: &[u8], types: usize, constants: usize) -> bool
-    ensures { λ r. ⌜ r ≡ (below types (expressionTypes (constantFields t (now (b .entry)) .value)) && below constants (expressionConstants (constantFields t (now (b .entry)) .value))) ⌝ }
+pub fn read_already(tag: u8, body: &[u8], types: usize, constants: usize) -> bool
+    ensures { λ r. ⌜ r ≡ (below types (expressionTypes (constantFields tag (now (body .entry)) .value)) && below constants (expressionConstants (constantFields tag (now (body .entry)) .value))) ⌝ }
 {
-    match t {
+    match tag {
         64 => true,
-        65 => one_below(b, 0, constants),
-        66 => one_below(b, 0, types),
-        67 => compose_read(b, types, constants),
-        68 => one_below(b, 1, constants),
-        _ => one_below(b, 1, constants),
+        65 => one_below(body, 0, constants),
+        66 => one_below(body, 0, types),
+        67 => compose_read(body, types, constants),
+        68 => one_below(body, 1, constants),
+        _ => one_below(body, 1, constants),
     }
 }

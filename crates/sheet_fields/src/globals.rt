@@ -20,11 +20,11 @@ fn binding_fits(b: &[u8], n: usize) -> bool
     }
 }
 
-pub fn values_fit(b: &[u8], n: usize) -> bool
+pub fn values_fit(body: &[u8], n: usize) -> bool
     requires { ⌜ n < 300 ⌝ }
-    ensures { λ r. ⌜ r ≡ (spaceFits (globalFields (now (b .entry)) n .value .space) (globalFields (now (b .entry)) n .value .access) && bindingFits (globalFields (now (b .entry)) n .value)) ⌝ }
+    ensures { λ r. ⌜ r ≡ (spaceFits (globalFields (now (body .entry)) n .value .space) (globalFields (now (body .entry)) n .value .access) && bindingFits (globalFields (now (body .entry)) n .value)) ⌝ }
 {
-    space_fits(fields::u8_at(b, n + 2), fields::u8_at(b, n + 3)) && binding_fits(b, n)
+    space_fits(fields::u8_at(body, n + 2), fields::u8_at(body, n + 3)) && binding_fits(body, n)
 }
 
 // An init of 65,535 is none.
@@ -37,9 +37,9 @@ fn init_below(init: u16, most: usize) -> bool
     (init as usize) < most
 }
 
-pub fn read_already(b: &[u8], n: usize, types: usize, constants: usize) -> bool
+pub fn read_already(body: &[u8], n: usize, types: usize, constants: usize) -> bool
     requires { ⌜ n < 300 ⌝ }
-    ensures { λ r. ⌜ r ≡ (below types (globalFields (now (b .entry)) n .value .type ∷ []) && below constants (initList (globalFields (now (b .entry)) n .value .init))) ⌝ }
+    ensures { λ r. ⌜ r ≡ (below types (globalFields (now (body .entry)) n .value .type ∷ []) && below constants (initList (globalFields (now (body .entry)) n .value .init))) ⌝ }
 {
-    one_below(b, n, types) && init_below(fields::u16_at(b, n + 13), constants)
+    one_below(body, n, types) && init_below(fields::u16_at(body, n + 13), constants)
 }

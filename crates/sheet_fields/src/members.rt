@@ -8,48 +8,48 @@ ghost use Rattle.definition.specs.Sheet.{membersAt, membersEnd};
 ghost use Rattle.definition.specs.Tests.{memberNames, memberTypes, below};
 
 // Where the n members from `first` on end.
-pub fn end_of(b: &[u8], first: usize, n: u8) -> usize
+pub fn end_of(body: &[u8], first: usize, n: u8) -> usize
     requires { ⌜ first < 1000 ⌝ }
-    ensures { λ r. ⌜ r ≡ membersEnd (now (b .entry)) first n ⌝ }
+    ensures { λ r. ⌜ r ≡ membersEnd (now (body .entry)) first n ⌝ }
 {
     let mut p = first;
     let mut k = n;
     while 0 < k {
-        p = fields::name_end(b, p + 6);
+        p = fields::name_end(body, p + 6);
         k -= 1;
     }
     p
 }
 
 // Whether each member's name is fit.
-pub fn names_fit(b: &[u8], first: usize, n: u8) -> bool
+pub fn names_fit(body: &[u8], first: usize, n: u8) -> bool
     requires { ⌜ first < 1000 ⌝ }
-    ensures { λ r. ⌜ r ≡ every nameFits (memberNames (membersAt (now (b .entry)) first n)) ⌝ }
+    ensures { λ r. ⌜ r ≡ every nameFits (memberNames (membersAt (now (body .entry)) first n)) ⌝ }
 {
     let mut p = first;
     let mut k = n;
     while 0 < k {
-        if !fields::name_fits(b, p + 6) {
+        if !fields::name_fits(body, p + 6) {
             return false;
         }
-        p = fields::name_end(b, p + 6);
+        p = fields::name_end(body, p + 6);
         k -= 1;
     }
     true
 }
 
 // Whether each member's type is among the first `types`.
-pub fn read_already(b: &[u8], first: usize, n: u8, types: usize) -> bool
+pub fn read_already(body: &[u8], first: usize, n: u8, types: usize) -> bool
     requires { ⌜ first < 1000 ⌝ }
-    ensures { λ r. ⌜ r ≡ below types (memberTypes (membersAt (now (b .entry)) first n)) ⌝ }
+    ensures { λ r. ⌜ r ≡ below types (memberTypes (membersAt (now (body .entry)) first n)) ⌝ }
 {
     let mut p = first;
     let mut k = n;
     while 0 < k {
-        if types <= fields::u16_at(b, p) as usize {
+        if types <= fields::u16_at(body, p) as usize {
             return false;
         }
-        p = fields::name_end(b, p + 6);
+        p = fields::name_end(body, p + 6);
         k -= 1;
     }
     true

@@ -15,11 +15,11 @@ ghost use Rattle.definition.specs.Utf8.{nameFits};
 ghost use Rattle.definition.specs.Sheet.{typeFields};
 ghost use Rattle.definition.specs.Tests.{innerNames, innerFits, innerTypes, below};
 
-pub fn end_of(t: u8, b: &[u8], n: usize) -> usize
+pub fn end_of(tag: u8, body: &[u8], n: usize) -> usize
     requires { ⌜ n < 300 ⌝ }
-    ensures { λ r. ⌜ r ≡ typeFields t (now (b .entry)) n .end ⌝ }
+    ensures { λ r. ⌜ r ≡ typeFields tag (now (body .entry)) n .end ⌝ }
 {
-    match t {
+    match tag {
         16 => n + 2,
         17 => n + 3,
         18 => n + 3,
@@ -27,7 +27,7 @@ pub fn end_of(t: u8, b: &[u8], n: usize) -> usize
         20 => n + 4,
         21 => n + 5,
         22 => n + 10,
-        23 => members::end_of(b, n + 5, fields::u8_at(b, n + 4)),
+        23 => members::end_of(body, n + 5, fields::u8_at(body, n + 4)),
         24 => n + 5,
         25 => n + 1,
         26 => n,
@@ -38,11 +38,11 @@ pub fn end_of(t: u8, b: &[u8], n: usize) -> usize
 }
 
 // Only a struct has names besides its own.
-pub fn names_fit(t: u8, b: &[u8], n: usize) -> bool
+pub fn names_fit(tag: u8, body: &[u8], n: usize) -> bool
     requires { ⌜ n < 300 ⌝ }
-    ensures { λ r. ⌜ r ≡ every nameFits (innerNames (typeFields t (now (b .entry)) n .value)) ⌝ }
+    ensures { λ r. ⌜ r ≡ every nameFits (innerNames (typeFields tag (now (body .entry)) n .value)) ⌝ }
 {
-    match t {
+    match tag {
         16 => true,
         17 => true,
         18 => true,
@@ -50,7 +50,7 @@ pub fn names_fit(t: u8, b: &[u8], n: usize) -> bool
         20 => true,
         21 => true,
         22 => true,
-        23 => members::names_fit(b, n + 5, fields::u8_at(b, n + 4)),
+        23 => members::names_fit(body, n + 5, fields::u8_at(body, n + 4)),
         24 => true,
         25 => true,
         26 => true,
@@ -60,21 +60,21 @@ pub fn names_fit(t: u8, b: &[u8], n: usize) -> bool
     }
 }
 
-pub fn values_fit(t: u8, b: &[u8], n: usize) -> bool
+pub fn values_fit(tag: u8, body: &[u8], n: usize) -> bool
     requires { ⌜ n < 300 ⌝ }
-    ensures { λ r. ⌜ r ≡ innerFits (typeFields t (now (b .entry)) n .value) ⌝ }
+    ensures { λ r. ⌜ r ≡ innerFits (typeFields tag (now (body .entry)) n .value) ⌝ }
 {
-    match t {
-        16 => scalar_fits(fields::u8_at(b, n), fields::u8_at(b, n + 1)),
-        17 => vector_fits(b, n),
-        18 => matrix_fits(b, n),
-        19 => scalar_fits(fields::u8_at(b, n), fields::u8_at(b, n + 1)),
-        20 => space_fits(fields::u8_at(b, n + 2), fields::u8_at(b, n + 3)),
-        21 => value_pointer_fits(b, n),
+    match tag {
+        16 => scalar_fits(fields::u8_at(body, n), fields::u8_at(body, n + 1)),
+        17 => vector_fits(body, n),
+        18 => matrix_fits(body, n),
+        19 => scalar_fits(fields::u8_at(body, n), fields::u8_at(body, n + 1)),
+        20 => space_fits(fields::u8_at(body, n + 2), fields::u8_at(body, n + 3)),
+        21 => value_pointer_fits(body, n),
         22 => true,
-        23 => fields::u8_at(b, n + 4) <= 64,
-        24 => image_fits(b, n),
-        25 => fields::u8_at(b, n) <= 1,
+        23 => fields::u8_at(body, n + 4) <= 64,
+        24 => image_fits(body, n),
+        25 => fields::u8_at(body, n) <= 1,
         26 => true,
         27 => true,
         28 => true,
@@ -83,25 +83,25 @@ pub fn values_fit(t: u8, b: &[u8], n: usize) -> bool
 }
 
 // The tags that name one type name it first.
-pub fn read_already(t: u8, b: &[u8], n: usize, types: usize) -> bool
+pub fn read_already(tag: u8, body: &[u8], n: usize, types: usize) -> bool
     requires { ⌜ n < 300 ⌝ }
-    ensures { λ r. ⌜ r ≡ below types (innerTypes (typeFields t (now (b .entry)) n .value)) ⌝ }
+    ensures { λ r. ⌜ r ≡ below types (innerTypes (typeFields tag (now (body .entry)) n .value)) ⌝ }
 {
-    match t {
+    match tag {
         16 => true,
         17 => true,
         18 => true,
         19 => true,
-        20 => one_below(b, n, types),
+        20 => one_below(body, n, types),
         21 => true,
-        22 => one_below(b, n, types),
-        23 => members::read_already(b, n + 5, fields::u8_at(b, n + 4), types),
+        22 => one_below(body, n, types),
+        23 => members::read_already(body, n + 5, fields::u8_at(body, n + 4), types),
         24 => true,
         25 => true,
         26 => true,
         27 => true,
-        28 => one_below(b, n, types),
-        _ => one_below(b, n, types),
+        28 => one_below(body, n, types),
+        _ => one_below(body, n, types),
     }
 }
 

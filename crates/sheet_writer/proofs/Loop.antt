@@ -21,7 +21,7 @@ use Rattle.records.specs.Places.{Places, seenOf, Ample, WithinLimits, recordFro
 use Rattle.records.proofs.Places.{header-size, whole}
 use Rattle.records.proofs.Loop.{Going, start, goes-on, next-inside, ends-fit, ends-four, ends-refused, judge-go}
 use Rattle.sheet.specs.Hash.{HashFor, Hashed}
-use Rattle.sheet.specs.Holding.{noCounts, addCounts, Passed, Held as Kept}
+use Rattle.sheet.specs.Holding.{noCounts, addCounts, PassedAt, RecordHeld as Kept}
 use Rattle.sheet.proofs.Adding.{looked, stored, counted, placed-of, rank-most}
 use Rattle.zeroable.specs.Memo.{Memo}
 use Rattle.availability.specs.declared.Available.{Available}
@@ -30,9 +30,9 @@ use Rattle.zeroable.proofs.Kept.{grows, empty as nothing-known}
 use Rattle.writer.specs.declared.Writer.{Writer}
 use Rattle.writer.specs.Held.{Held, Room, Grown}
 use Rattle.writer.specs.Steps.{fresh}
-use Rattle.sheet_writer.specs.declared.Turn.{Turn}
-use Rattle.sheet_writer.specs.Turning.{Before, Ready, Turned, costAt}
-use Rattle.sheet_writer.specs.Whole.{recordsOf, beforeBound, Capacity, GlobalsFit, Fits}
+use Rattle.sheet_writer.specs.declared.RecordOutcome.{RecordOutcome}
+use Rattle.sheet_writer.specs.Turning.{Before, Ready, RecordWritten, costAt}
+use Rattle.sheet_writer.specs.Whole.{recordsOf, beforeBound, Capacity, GlobalsFit, SheetFits}
 use Rattle.sheet_writer.proofs.Given.{told}
 use Rattle.sheet_writer.proofs.Rooms.{Used, no-room, roomy}
 
@@ -130,7 +130,7 @@ module _ (s T₀ S₀ m₀ : List ℕ) (p₀ : Places) (nr nb : ℕ) (T S m : Li
   judged : recordsOf s ≡ beforeBound s
   judged = sym (judge-go _ _ ok)
 
-  pub fits : length s ≤ at → Fits s nb p T S k w
+  pub fits : length s ≤ at → SheetFits s nb p T S k w
   fits l = record {
     progress = now;
     same = ends-fit recordTest (declareRecord o) (recordsOf s) s at now (h .going) l ∙ judged;
@@ -180,7 +180,7 @@ module _ (s T₀ S₀ m₀ : List ℕ) (p₀ : Places) (nr nb : ℕ) (T S m : Li
         room = λ z. tested-room z .0;
       }
 
-      module _ (t : Turn) (T′ S′ m′ : List ℕ) (turn : Turned s (p .remaps) (p .types) k v rest o w T S t T′ S′ m′) where
+      module _ (t : RecordOutcome) (T′ S′ m′ : List ℕ) (turn : RecordWritten s (p .remaps) (p .types) k v rest o w T S t T′ S′ m′) where
         -- the definition's own test, in the state that is held
         tested : t .refused ≡ recordTest now (recordAt (drop at s))
         tested = rw (← e) (turn .told (seenOf s p k) (before s p k v (h .ample) (h .few) (h .available)) (h .state) (h .held))
@@ -193,7 +193,7 @@ module _ (s T₀ S₀ m₀ : List ℕ) (p₀ : Places) (nr nb : ℕ) (T S m : Li
           unfolding recordTest
           read = first-passed (readingTest (seenOf s p k) (recordAt (drop at s))) _ (sym tested ∙ z) .0
 
-          pub passed : Passed s p k at
+          pub passed : PassedAt s p k at
           passed = record { ample = h .ample; few = h .few; hashed = h .hashed; late = h .late; small = omega (arith, h .small); tested = read }
 
           pub turns : (p′ : Places) (k′ : Counts) (v′ : Available) (at′ : ℕ) → Kept s p k at p′ k′ → ((n : Seen) → Flagged (n .available) v → Flagged (addRecord n (recordAt rest) .available) v′) → at′ ≡ at + (2 + u16At rest 0)

@@ -15,7 +15,7 @@ use Rattle.records.specs.Places.{WithinLimits}
 use Rattle.sheet.specs.Holding.{addCounts}
 use Rattle.sheet.proofs.Adding.{by-rank}
 use Rattle.writer.specs.declared.Writer.{Writer}
-use Rattle.writer.specs.Cost.{nothing}
+use Rattle.writer.specs.Cost.{noCost}
 use Rattle.writer.specs.Held.{Room, Grown}
 use Rattle.sheet_writer.specs.Turning.{entryCost}
 
@@ -42,7 +42,7 @@ pub record Used (nr nb at : ℕ) (k : Counts) (w : Writer) : Type 0 where
 
 module _ (s T S : List ℕ) (nr nb at : ℕ) (k : Counts) (w : Writer) (u : Used nr nb at k w) (f : WithinLimits k) (small : length s ≤ nb) (recs : (length s ≤ 3 * nr) ⊎ (576 ≤ nr))
     (tables : 19 * nr + nb ≤ length T) (sections : 7 * nb ≤ length S) (short : length s ≤ 16384) where
-  pub no-room : at ≤ length s → Room nothing w T S
+  pub no-room : at ≤ length s → Room noCost w T S
   no-room inside = let e : countOf k ≤ nr = ⊎-elim (λ l. omega arith) (λ l. omega arith) recs in omega arith
 
   module _ (n : Seen) (c : Counted n k) (l : ℕ) (least : 3 ≤ l) (inside : at + l ≤ length s) where

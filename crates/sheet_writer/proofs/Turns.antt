@@ -36,12 +36,12 @@ use Rattle.definition.specs.Sheet as Defined
 use Rattle.definition.specs.Shapes.{shapeOf}
 use Rattle.definition.specs.Tests.{innerFits}
 use Rattle.definition.specs.Unfit.{shapeAvailable}
-use Rattle.records.specs.Places.{typesFrom, remapFrom, typeOf as recordType}
+use Rattle.records.specs.Places.{typesFrom, remapFrom, typeOfRecord as recordType}
 use Rattle.entries.specs.declared.types.TypeInner.{TypeInner}
-use Rattle.entries.specs.Types.{Taken, innerOf}
+use Rattle.entries.specs.Types.{TypeTaken, innerOf}
 use Rattle.availability.specs.declared.Available.{Available}
 use Rattle.availability.specs.Flags.{Flagged}
-use Rattle.sheet_writer.specs.Turning.{Before, Passed, FitnessTold, EntryWritten, costAt}
+use Rattle.sheet_writer.specs.Turning.{Before, PassedTests, TestsFitness, EntryWritten, costAt}
 use Rattle.sheet_writer.proofs.Given.{Told, told, names-types, typeOf, constantOf, globalOf, is-type, is-constant, is-global, is-available, is-remap}
 
 -- ---- the record's own test: 5 to 12, then 13 and 14
@@ -52,7 +52,7 @@ module _ (s rs ts : List ℕ) (k : Counts) (a : Available) (rest : List ℕ) (w 
   unfolding recordTest
   read-first r e f n b x h = first-stop r (readingTest n (recordAt rest)) _ (e n (b .looked)) f
 
-  pub then-fits : (r f : ℕ) → ((n : Seen) → Looked s rs ts k n → r ≡ readingTest n (recordAt rest)) → r ≡ 0 → FitnessTold s rs ts k a rest w T f
+  pub then-fits : (r f : ℕ) → ((n : Seen) → Looked s rs ts k n → r ≡ readingTest n (recordAt rest)) → r ≡ 0 → TestsFitness s rs ts k a rest w T f
       → (n : Seen) → Before s rs ts k a n → (x : State) → Held w T S x → f ≡ recordTest (record { seen = n; state = x }) (recordAt rest)
   unfolding recordTest
   then-fits r f e z t n b x h = first-go r (readingTest n (recordAt rest)) _ f (e n (b .looked)) z (t n b S x h)
@@ -66,7 +66,7 @@ body-few rest h = simp (length-take, length-drop) (omega arith)
 one-below : (x n : ℕ) → below n (x ∷ []) ≡ true → x < n
 one-below x n h = ltb-true x n (both (ltb x n) true h .0)
 
-module _ (s rs ts : List ℕ) (k : Counts) (rest : List ℕ) (p : Passed s rs ts k rest) where
+module _ (s rs ts : List ℕ) (k : Counts) (rest : List ℕ) (p : PassedTests s rs ts k rest) where
   abbrev r : Record
   r = recordAt rest
 
@@ -77,15 +77,15 @@ module _ (s rs ts : List ℕ) (k : Counts) (rest : List ℕ) (p : Passed s rs ts
   counted-types : length (p .seen .types) ≡ k .types
   counted-types = p .looked .counted .types
 
-  pub type-tested : tagRank (r .tag) ≡ 3 → Types.Tested r
+  pub type-tested : tagRank (r .tag) ≡ 3 → Types.TypeTested r
   type-tested e = let t = passed-told (typeOf r) (is-type r e) in record { whole = t .whole; values = t .values }
 
-  pub constant-tested : tagRank (r .tag) ≡ 4 → length rest ≤ 16384 → Constants.Tested (k .types) r
+  pub constant-tested : tagRank (r .tag) ≡ 4 → length rest ≤ 16384 → Constants.ConstantTested (k .types) r
   constant-tested e h =
       let t = passed-told (constantOf r) (is-constant r e) in
       record { whole = t .whole; values = t .values; types = rw (← counted-types) (names-types (p .seen) r (constantOf r) t); small = body-few rest h }
 
-  pub global-tested : tagRank (r .tag) ≡ 5 → Globals.Tested (k .types) r
+  pub global-tested : tagRank (r .tag) ≡ 5 → Globals.GlobalTested (k .types) r
   global-tested e =
       let t = passed-told (globalOf r) (is-global r e) in
       record { whole = t .whole; values = t .values; type = one-below _ (k .types) (rw (← counted-types) (names-types (p .seen) r (globalOf r) t)) }
@@ -101,23 +101,23 @@ module _ (s rs ts : List ℕ) (k : Counts) (rest : List ℕ) (p : Passed s rs ts
   -- ---- tests 13 and 14
 
   module _ (v : Available) (w : Writer) (T : List ℕ) where
-    pub type-fitness : tagRank (r .tag) ≡ 3 → (q : ℕ) → ((o : Option (List ℕ)) → Flagged o v → q ≡ unless (shapeAvailable o (shapeOf (Defined.typeFields (r .tag) (r .body) (nameEnd (r .body) 0) .value))) 14 0) → FitnessTold s rs ts k v rest w T q
+    pub type-fitness : tagRank (r .tag) ≡ 3 → (q : ℕ) → ((o : Option (List ℕ)) → Flagged o v → q ≡ unless (shapeAvailable o (shapeOf (Defined.typeFields (r .tag) (r .body) (nameEnd (r .body) 0) .value))) 14 0) → TestsFitness s rs ts k v rest w T q
     unfolding fitnessTest
     type-fitness e q d n b S x h = d (n .available) (b .available) ∙ sym (ap (λ (f : Fields Entry). fitnessTest n x (f .value)) (is-type r e))
 
-    pub constant-fitness : tagRank (r .tag) ≡ 4 → (q : ℕ) (a : Bool) → q ≡ unless a 13 0 → ((S : List ℕ) (x : State) → Held w T S x → a ≡ constantFits (typesFrom s ts (k .types)) x (Defined.constantFields (r .tag) (r .body) .value)) → FitnessTold s rs ts k v rest w T q
+    pub constant-fitness : tagRank (r .tag) ≡ 4 → (q : ℕ) (a : Bool) → q ≡ unless a 13 0 → ((S : List ℕ) (x : State) → Held w T S x → a ≡ constantFits (typesFrom s ts (k .types)) x (Defined.constantFields (r .tag) (r .body) .value)) → TestsFitness s rs ts k v rest w T q
     unfolding fitnessTest
     constant-fitness e q a d c n b S x h =
         d ∙ ap (λ (y : Bool). unless y 13 0) (c S x h ∙ ap (λ (us : List Defined.TypeEntry). constantFits us x (Defined.constantFields (r .tag) (r .body) .value)) (sym (b .looked .types)))
         ∙ sym (ap (λ (f : Fields Entry). fitnessTest n x (f .value)) (is-constant r e))
 
-    pub global-fitness : tagRank (r .tag) ≡ 5 → (q : ℕ) (a : Bool) → q ≡ unless a 13 0 → ((S : List ℕ) (x : State) → Held w T S x → a ≡ globalFits (typesFrom s ts (k .types)) x (Defined.globalFields (r .body) (nameEnd (r .body) 0) .value)) → FitnessTold s rs ts k v rest w T q
+    pub global-fitness : tagRank (r .tag) ≡ 5 → (q : ℕ) (a : Bool) → q ≡ unless a 13 0 → ((S : List ℕ) (x : State) → Held w T S x → a ≡ globalFits (typesFrom s ts (k .types)) x (Defined.globalFields (r .body) (nameEnd (r .body) 0) .value)) → TestsFitness s rs ts k v rest w T q
     unfolding fitnessTest
     global-fitness e q a d c n b S x h =
         d ∙ ap (λ (y : Bool). unless y 13 0) (c S x h ∙ ap (λ (us : List Defined.TypeEntry). globalFits us x (Defined.globalFields (r .body) (nameEnd (r .body) 0) .value)) (sym (b .looked .types)))
         ∙ sym (ap (λ (f : Fields Entry). fitnessTest n x (f .value)) (is-global r e))
 
-    pub other-fitness : (q : ℕ) → q ≡ tagRank (r .tag) → (q ≡ 3 → ⊥) → (q ≡ 4 → ⊥) → (q ≡ 5 → ⊥) → FitnessTold s rs ts k v rest w T 0
+    pub other-fitness : (q : ℕ) → q ≡ tagRank (r .tag) → (q ≡ 3 → ⊥) → (q ≡ 4 → ⊥) → (q ≡ 5 → ⊥) → TestsFitness s rs ts k v rest w T 0
     unfolding fitnessTest
     other-fitness q e f g i n b S x h = other (λ (y : Entry). 0 ≡ fitnessTest n x y) (λ cs. refl) (λ m. refl) q e f g i
 
@@ -159,7 +159,7 @@ module _ (s rs ts : List ℕ) (k : Counts) (rest : List ℕ) (p : Passed s rs ts
 
 -- a type's fields are those of its record
 pub type-told : (o : Option (List ℕ)) (rest : List ℕ) (t : ℕ) (b : List ℕ) (i : TypeInner) (r : Bool) → t ≡ recordAt rest .tag → b ≡ recordAt rest .body
-    → Taken t b (nameEnd b 0) i → ((b′ : List ℕ) (n : ℕ) → r ≡ shapeAvailable o (shapeOf (innerOf b′ n i)))
+    → TypeTaken t b (nameEnd b 0) i → ((b′ : List ℕ) (n : ℕ) → r ≡ shapeAvailable o (shapeOf (innerOf b′ n i)))
     → innerFits (Defined.typeFields (recordAt rest .tag) (recordAt rest .body) (nameEnd (recordAt rest .body) 0) .value) ≡ true
     → r ≡ shapeAvailable o (shapeOf (Defined.typeFields (recordAt rest .tag) (recordAt rest .body) (nameEnd (recordAt rest .body) 0) .value))
 type-told o rest t b i r et eb k e f =

@@ -19,9 +19,9 @@ use Rattle.zeroable.specs.Memo.{Memo}
 use Rattle.availability.specs.declared.Available.{Available}
 use Rattle.availability.specs.Flags.{Flagged}
 use Rattle.writer.specs.declared.Writer.{Writer}
-use Rattle.writer.specs.Cost.{Cost, nothing, recordCost}
+use Rattle.writer.specs.Cost.{Cost, noCost, recordCost}
 use Rattle.writer.specs.Held.{Held, Room, Grown}
-use Rattle.sheet_writer.specs.declared.Turn.{Turn}
+use Rattle.sheet_writer.specs.declared.RecordOutcome.{RecordOutcome}
 
 -- n is what was read: its counts, remaps and types, and what is available
 pub record Before (s rs ts : List ℕ) (k : Counts) (a : Available) (n : Seen) : Type 0 where
@@ -30,7 +30,7 @@ pub record Before (s rs ts : List ℕ) (k : Counts) (a : Available) (n : Seen) :
 
 -- a record of n bytes and a rank: Available and Remap are not declared
 abbrev pub entryCost : ℕ → ℕ → Cost
-entryCost rank n = pick (ltb 2 rank) (recordCost n) nothing
+entryCost rank n = pick (ltb 2 rank) (recordCost n) noCost
 
 -- the cost of the record at the front of what is left
 abbrev pub costAt : List ℕ → Cost
@@ -46,18 +46,18 @@ pub record Ready (s rs ts : List ℕ) (k : Counts) (rest : List ℕ) (h : ℕ) (
   pub few : k .types ≤ 256
   pub small : length rest ≤ 16384
   pub memo : Memo (typesFrom s ts (k .types)) m
-  pub no-room : Room nothing w T S
+  pub no-room : Room noCost w T S
   pub room : readingTest seen (recordAt rest) ≡ 0 → Room (costAt rest) w T S
 
 -- the record at the front of what is left passed tests 5 to 12
-pub record Passed (s rs ts : List ℕ) (k : Counts) (rest : List ℕ) : Type 0 where
+pub record PassedTests (s rs ts : List ℕ) (k : Counts) (rest : List ℕ) : Type 0 where
   pub seen : Seen
   pub looked : Looked s rs ts k seen
   pub tested : readingTest seen (recordAt rest) ≡ 0
 
 -- tests 13 and 14, in whatever state is held
-abbrev pub FitnessTold : List ℕ → List ℕ → List ℕ → Counts → Available → List ℕ → Writer → List ℕ → ℕ → Type 0
-FitnessTold s rs ts k a rest w T r = (n : Seen) → Before s rs ts k a n → (S : List ℕ) (x : State) → Held w T S x → r ≡ fitnessTest n x (entryOf (recordAt rest) .value)
+abbrev pub TestsFitness : List ℕ → List ℕ → List ℕ → Counts → Available → List ℕ → Writer → List ℕ → ℕ → Type 0
+TestsFitness s rs ts k a rest w T r = (n : Seen) → Before s rs ts k a n → (S : List ℕ) (x : State) → Held w T S x → r ≡ fitnessTest n x (entryOf (recordAt rest) .value)
 
 -- the record's entry is declared
 pub record EntryWritten (s rs ts : List ℕ) (k : Counts) (rest : List ℕ) (o : Options) (w : Writer) (T S : List ℕ) (v : Writer) (T′ S′ : List ℕ) : Type 0 where
@@ -65,7 +65,7 @@ pub record EntryWritten (s rs ts : List ℕ) (k : Counts) (rest : List ℕ) (o :
   pub held : (n : Seen) → Looked s rs ts k n → (x : State) → Held w T S x → Held v T′ S′ (declareEntry o n (entryOf (recordAt rest) .value) x)
 
 -- the turn whole: the number that the definition's test answers, and where that is 0 the entry is declared
-pub record Turned (s rs ts : List ℕ) (k : Counts) (a : Available) (rest : List ℕ) (o : Options) (w : Writer) (T S : List ℕ) (r : Turn) (T′ S′ m′ : List ℕ) : Type 0 where
+pub record RecordWritten (s rs ts : List ℕ) (k : Counts) (a : Available) (rest : List ℕ) (o : Options) (w : Writer) (T S : List ℕ) (r : RecordOutcome) (T′ S′ m′ : List ℕ) : Type 0 where
   pub memo : Memo (typesFrom s ts (k .types)) m′
   pub told : (n : Seen) → Before s rs ts k a n → (x : State) → Held w T S x → r .refused ≡ recordTest (record { seen = n; state = x }) (recordAt rest)
   pub written : r .refused ≡ 0 → EntryWritten s rs ts k rest o w T S (r .writer) T′ S′

@@ -11,7 +11,7 @@ use Rattle.definition.specs.Operations.{Progress, begin, recordTest, declareRec
 use Rattle.records.specs.declared.Counts.{Counts}
 use Rattle.records.specs.Places.{Places, seenOf, Ample, WithinLimits}
 use Rattle.writer.specs.declared.Writer.{Writer}
-use Rattle.writer.specs.Cost.{nothing}
+use Rattle.writer.specs.Cost.{noCost}
 use Rattle.writer.specs.Held.{Held, Room}
 use Rattle.sheet_writer.specs.declared.Outcome.{Outcome}
 use Rattle.sheet_writer.specs.declared.Outcome.the-variants.{Refused, Fit}
@@ -41,7 +41,7 @@ abbrev pub GlobalsFit : Seen → Type 0
 GlobalsFit n = (i : ℕ) → valuesFit (global (getD (n .globals) i noGlobal)) ≡ true
 
 -- what was read stands at the places, and the state that the definition comes to is held
-pub record Fits (s : List ℕ) (bytes : ℕ) (p : Places) (T S : List ℕ) (k : Counts) (w : Writer) : Type 0 where
+pub record SheetFits (s : List ℕ) (bytes : ℕ) (p : Places) (T S : List ℕ) (k : Counts) (w : Writer) : Type 0 where
   pub progress : Progress
   pub same : fit progress ≡ beforeBound s
   pub seen : progress .seen ≡ seenOf s p k
@@ -49,10 +49,10 @@ pub record Fits (s : List ℕ) (bytes : ℕ) (p : Places) (T S : List ℕ) (k : 
   pub held : Held w T S (progress .state)
   pub ample : Ample p
   pub few : WithinLimits k
-  pub room : Room nothing w T S
+  pub room : Room noCost w T S
   pub size : w .bytes ≡ bytes
 
 -- the answer is the definition's
-abbrev pub CameTo : List ℕ → ℕ → Places → List ℕ → List ℕ → Outcome → Type 0
-CameTo s bytes p T S (Refused n) = refused n ≡ beforeBound s
-CameTo s bytes p T S (Fit k w) = Fits s bytes p T S k w
+abbrev pub SheetWritten : List ℕ → ℕ → Places → List ℕ → List ℕ → Outcome → Type 0
+SheetWritten s bytes p T S (Refused n) = refused n ≡ beforeBound s
+SheetWritten s bytes p T S (Fit k w) = SheetFits s bytes p T S k w

@@ -22,13 +22,13 @@ ghost use Rattle.records.specs.Flags.{optionsFrom};
 ghost use Rattle.records.specs.Places.{typesFrom, placesOf, Ample};
 ghost use Rattle.zeroable.specs.Memo.{Memo};
 ghost use Rattle.availability.specs.Flags.{Flagged};
-ghost use Rattle.writer.specs.Cost.{nothing};
+ghost use Rattle.writer.specs.Cost.{noCost};
 ghost use Rattle.writer.specs.Held.{RoomIn, Room};
-ghost use Rattle.sheet_writer.specs.Turning.{costAt, Ready, Passed, FitnessTold, EntryWritten, Turned};
-ghost use Rattle.sheet_writer.specs.Whole.{Capacity, CameTo};
+ghost use Rattle.sheet_writer.specs.Turning.{costAt, Ready, PassedTests, TestsFitness, EntryWritten, RecordWritten};
+ghost use Rattle.sheet_writer.specs.Whole.{Capacity, SheetWritten};
 
 // What a record's turn comes to: the number of the first test that fails, or 0 and the writer after its declaration.
-pub struct Turn {
+pub struct RecordOutcome {
     pub refused: u8,
     pub writer: Writer,
 }
@@ -77,8 +77,8 @@ fn fitness_test(
     available: Available,
     rest: &[u8],
 ) -> u8
-    requires { ⌜ Passed (now s) (now remaps) (now types) k (now rest) × ((k .types ≤ length (now types)) × ((length (now rest) ≤ 16384) × (RoomIn nothing w (now tables) × Memo (typesFrom (now s) (now types) (k .types)) (now memo)))) ⌝ }
-    ensures { λ r. ⌜ FitnessTold (now (s .entry)) (now (remaps .entry)) (now (types .entry)) k available (now (rest .entry)) w (now (tables .entry)) r × Memo (typesFrom (now (s .entry)) (now (types .entry)) (k .types)) (now (memo .exit)) ⌝ }
+    requires { ⌜ PassedTests (now s) (now remaps) (now types) k (now rest) × ((k .types ≤ length (now types)) × ((length (now rest) ≤ 16384) × (RoomIn noCost w (now tables) × Memo (typesFrom (now s) (now types) (k .types)) (now memo)))) ⌝ }
+    ensures { λ r. ⌜ TestsFitness (now (s .entry)) (now (remaps .entry)) (now (types .entry)) k available (now (rest .entry)) w (now (tables .entry)) r × Memo (typesFrom (now (s .entry)) (now (types .entry)) (k .types)) (now (memo .exit)) ⌝ }
 {
     match records::rank_of(records::tag_of(rest)) {
         3 => type_test(available, rest),
@@ -100,7 +100,7 @@ fn write_entry(
     rest: &[u8],
     options: Options,
 ) -> Writer
-    requires { ⌜ Passed (now s) (now remaps) (now types) k (now rest) × ((k .remaps ≤ length (now remaps)) × ((k .types ≤ length (now types)) × ((k .types ≤ 256) × ((length (now rest) ≤ 16384) × Room (costAt (now rest)) w (now tables) (now sections))))) ⌝ }
+    requires { ⌜ PassedTests (now s) (now remaps) (now types) k (now rest) × ((k .remaps ≤ length (now remaps)) × ((k .types ≤ length (now types)) × ((k .types ≤ 256) × ((length (now rest) ≤ 16384) × Room (costAt (now rest)) w (now tables) (now sections))))) ⌝ }
     ensures { λ r. ⌜ EntryWritten (now (s .entry)) (now (remaps .entry)) (now (types .entry)) k (now (rest .entry)) (optionsFrom options) w (now (tables .entry)) (now (sections .entry)) r (now (tables .exit)) (now (sections .exit)) ⌝ }
 {
     match records::rank_of(records::tag_of(rest)) {
@@ -121,7 +121,7 @@ fn write_entry(
 }
 
 // The turn of the record at the front of what is left: tests 5 to 14, then its declaration. A type's hash is given.
-fn record_turn(
+fn write_record(
     tables: &mut [u64],
     sections: &mut [u32],
     memo: &mut [u8],
@@ -134,26 +134,26 @@ fn record_turn(
     rest: &[u8],
     hash: u32,
     options: Options,
-) -> Turn
+) -> RecordOutcome
     requires { ⌜ Ready (now s) (now remaps) (now types) k (now rest) hash (now tables) (now sections) (now memo) w ⌝ }
-    ensures { λ r. ⌜ Turned (now (s .entry)) (now (remaps .entry)) (now (types .entry)) k available (now (rest .entry)) (optionsFrom options) w (now (tables .entry)) (now (sections .entry)) r (now (tables .exit)) (now (sections .exit)) (now (memo .exit)) ⌝ }
+    ensures { λ r. ⌜ RecordWritten (now (s .entry)) (now (remaps .entry)) (now (types .entry)) k available (now (rest .entry)) (optionsFrom options) w (now (tables .entry)) (now (sections .entry)) r (now (tables .exit)) (now (sections .exit)) (now (memo .exit)) ⌝ }
 {
     let r = sheet::record_test(s, remaps, types, k, rest, hash);
     if r != 0 {
-        return Turn {
+        return RecordOutcome {
             refused: r,
             writer: w,
         };
     }
     let f = fitness_test(tables, memo, w, s, remaps, types, k, available, rest);
     if f != 0 {
-        return Turn {
+        return RecordOutcome {
             refused: f,
             writer: w,
         };
     }
     let v = write_entry(tables, sections, w, s, remaps, types, k, rest, options);
-    Turn {
+    RecordOutcome {
         refused: 0,
         writer: v,
     }
@@ -170,34 +170,34 @@ pub fn write_sheet(
     types: &mut [u32],
     constants: &mut [u32],
     globals: &mut [u32],
-    s: &[u8],
+    sheet: &[u8],
     nrecords: usize,
     nbytes: usize,
 ) -> Outcome
-    requires { ⌜ Capacity (now s) nrecords nbytes (now tables) (now sections) (now memo) × Ample (placesOf (now remaps) (now types) (now constants) (now globals)) ⌝ }
-    ensures { λ r. ⌜ CameTo (now (s .entry)) nbytes (placesOf (now (remaps .exit)) (now (types .exit)) (now (constants .exit)) (now (globals .exit))) (now (tables .exit)) (now (sections .exit)) r ⌝ }
+    requires { ⌜ Capacity (now sheet) nrecords nbytes (now tables) (now sections) (now memo) × Ample (placesOf (now remaps) (now types) (now constants) (now globals)) ⌝ }
+    ensures { λ r. ⌜ SheetWritten (now (sheet .entry)) nbytes (placesOf (now (remaps .exit)) (now (types .exit)) (now (constants .exit)) (now (globals .exit))) (now (tables .exit)) (now (sections .exit)) r ⌝ }
 {
-    let h = records::header_test(s);
+    let h = records::header_test(sheet);
     if h != 0 {
         return Outcome::Refused(h);
     }
-    let options = records::options_of(s);
-    let mut w = writer::new(nrecords, nbytes, fields::u32_at(s, 1) as u64);
+    let options = records::options_of(sheet);
+    let mut w = writer::new(nrecords, nbytes, fields::u32_at(sheet, 1) as u64);
     let mut at = records::HEADER;
     let mut k = holding::nothing();
     let mut available = availability::everything();
-    while at < s.len() {
-        let rest = records::rest_at(s, at);
+    while at < sheet.len() {
+        let rest = records::rest_at(sheet, at);
         if records::no_record(rest) {
             return Outcome::Refused(4);
         }
         let hash = hash::hash_at(rest);
-        let t = record_turn(
+        let t = write_record(
             tables,
             sections,
             memo,
             w,
-            s,
+            sheet,
             remaps,
             types,
             k,
@@ -213,7 +213,7 @@ pub fn write_sheet(
         let v = t.writer;
         w = v;
         available = availability::behind(available, rest);
-        k = holding::hold(s, remaps, types, constants, globals, k, at, hash);
+        k = holding::hold(sheet, remaps, types, constants, globals, k, at, hash);
         at = records::next_place(rest, at);
     }
     Outcome::Fit(k, w)

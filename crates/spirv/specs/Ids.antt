@@ -16,9 +16,9 @@ abbrev pub low : ℕ → ℕ
 low x = x % 4294967296
 
 -- the id that a variable begins with
-abbrev pub initOf : Initializer → Option ℕ
-initOf Nothing = none
-initOf (Id x) = some x
+abbrev pub initializerOf : Initializer → Option ℕ
+initializerOf Nothing = none
+initializerOf (Id x) = some x
 
 -- the same as a word
 abbrev pub initWord : Initializer → Option ℕ

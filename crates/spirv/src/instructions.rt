@@ -7,7 +7,7 @@
 // sheet's limits are far below the bound, so that callers meet it at once.
 ghost use mathlib.Core.List.{[], _∷_, map};
 ghost use Prim.Native.Nat.{_<_};
-ghost use Rattle.definition.specs.Instructions.{words, capability, name, memberName, typeBool, typeInt, typeFloat, typeVector, typeMatrix, typeImage, typeSampler, typeAccelerationStructure, typeRayQuery, typeArray, typeRuntimeArray, typeStruct, typePointer, decorate, memberDecorate, constantTrue, constantFalse, constantNull, constant, constantComposite, variable};
+ghost use Rattle.definition.specs.Instructions.{words, capability, name, memberName, typeBool, typeInt, typeFloat, typeVector, typeMatrix, typeImage, typeSampler, typeAccelerationStructure, typeRayQuery, typeArray, typeRuntimeArray, typeStruct, typePointer, decorate, memberDecorate, constantTrue, constantFalse, constantNull, constantOp, constantComposite, variable};
 ghost use Rattle.spirv.specs.Put.{Put, FitsWordCount};
 ghost use Rattle.spirv.specs.Heads.{structHead};
 ghost use Rattle.spirv.specs.Ids.{low, initWord};
@@ -270,13 +270,13 @@ pub fn constant_null(sink: &mut [u32], ty: u32, id: u32) -> usize
 }
 
 pub fn constant_32bit(sink: &mut [u32], ty: u32, id: u32, value: u32) -> usize
-    ensures { λ r. ⌜ Put (words (constant ty id (value ∷ []))) (now (sink .entry)) (now (sink .exit)) r ⌝ }
+    ensures { λ r. ⌜ Put (words (constantOp ty id (value ∷ []))) (now (sink .entry)) (now (sink .exit)) r ⌝ }
 {
     put_value(sink, OP_CONSTANT, &[ty, id, value])
 }
 
 pub fn constant_64bit(sink: &mut [u32], ty: u32, id: u32, low: u32, high: u32) -> usize
-    ensures { λ r. ⌜ Put (words (constant ty id (low ∷ high ∷ []))) (now (sink .entry)) (now (sink .exit)) r ⌝ }
+    ensures { λ r. ⌜ Put (words (constantOp ty id (low ∷ high ∷ []))) (now (sink .entry)) (now (sink .exit)) r ⌝ }
 {
     put_value(sink, OP_CONSTANT, &[ty, id, low, high])
 }

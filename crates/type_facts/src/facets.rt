@@ -38,57 +38,57 @@ fn image_facet(class: u8, access: u8) -> Facet
 
 // Of a type with a tag and a body. Other are Scalar, Vector, Atomic, Sampler, AccelerationStructure and RayQuery. What is no
 // type's tag is a BindingArray, here as in the definition: test 5 lets none through.
-pub fn facet_of(tag: u8, b: &[u8]) -> Facet
-    ensures { λ r. ⌜ r ≡ facetOf (typeFields tag (now (b .entry)) (nameEnd (now (b .entry)) 0) .value) ⌝ }
+pub fn facet_of(tag: u8, body: &[u8]) -> Facet
+    ensures { λ r. ⌜ r ≡ facetOf (typeFields tag (now (body .entry)) (nameEnd (now (body .entry)) 0) .value) ⌝ }
 {
-    let at = fields::name_end(b, 0);
+    let at = fields::name_end(body, 0);
     match tag {
         16 => Facet::Other,
         17 => Facet::Other,
         18 => Facet::Matrix {
             stride: matrix_stride(
-                fields::u8_at(b, at + 1) as u32,
-                fields::u8_at(b, at + 2) as u32,
+                fields::u8_at(body, at + 1) as u32,
+                fields::u8_at(body, at + 2) as u32,
             ),
         },
         19 => Facet::Other,
         20 => Facet::Pointer,
         21 => Facet::Pointer,
         22 => Facet::Array {
-            base: fields::u16_at(b, at),
-            dynamic: fields::u32_at(b, at + 2) == 0,
+            base: fields::u16_at(body, at),
+            dynamic: fields::u32_at(body, at + 2) == 0,
         },
         23 => Facet::Struct,
-        24 => image_facet(fields::u8_at(b, at + 2), fields::u8_at(b, at + 4)),
+        24 => image_facet(fields::u8_at(body, at + 2), fields::u8_at(body, at + 4)),
         25 => Facet::Other,
         26 => Facet::Other,
         27 => Facet::Other,
         28 => Facet::BindingArray {
-            base: fields::u16_at(b, at),
+            base: fields::u16_at(body, at),
         },
         _ => Facet::BindingArray {
-            base: fields::u16_at(b, at),
+            base: fields::u16_at(body, at),
         },
     }
 }
 
 // Of type i of the first n.
-pub fn facet_at(s: &[u8], types: &[u32], n: usize, i: usize) -> Facet
-    requires { ⌜ n ≤ length (now types) ⌝ }
-    ensures { λ r. ⌜ r ≡ facetOf (innerAt (typesFrom (now (s .entry)) (now (types .entry)) n) i) ⌝ }
+pub fn facet_at(sheet: &[u8], types: &[u32], ntypes: usize, index: usize) -> Facet
+    requires { ⌜ ntypes ≤ length (now types) ⌝ }
+    ensures { λ r. ⌜ r ≡ facetOf (innerAt (typesFrom (now (sheet .entry)) (now (types .entry)) ntypes) index) ⌝ }
 {
-    if n <= i {
+    if ntypes <= index {
         return Facet::Other;
     }
-    let rest = entries::entry_at(s, types, i);
+    let rest = entries::entry_at(sheet, types, index);
     facet_of(records::tag_of(rest), records::body_of(rest))
 }
 
 // Whether it is a dynamic array.
-pub fn dynamic_in(f: Facet) -> bool
-    ensures { λ r. ⌜ r ≡ dynamicIn f ⌝ }
+pub fn dynamic_in(facet: Facet) -> bool
+    ensures { λ r. ⌜ r ≡ dynamicIn facet ⌝ }
 {
-    match f {
+    match facet {
         Facet::Matrix { stride: _ } => false,
         Facet::Array { base: _, dynamic } => dynamic,
         Facet::Struct => false,
@@ -100,50 +100,50 @@ pub fn dynamic_in(f: Facet) -> bool
 }
 
 // The column stride of a matrix.
-pub fn stride_in(f: Facet) -> Number
-    ensures { λ r. ⌜ r ≡ strideIn f ⌝ }
+pub fn stride_in(facet: Facet) -> Number
+    ensures { λ r. ⌜ r ≡ strideIn facet ⌝ }
 {
-    let Facet::Matrix { stride } = f else {
+    let Facet::Matrix { stride } = facet else {
         return Number::Nothing;
     };
     Number::Of(stride)
 }
 
 // The access of a storage image.
-pub fn access_in(f: Facet) -> Access
-    ensures { λ r. ⌜ r ≡ accessIn f ⌝ }
+pub fn access_in(facet: Facet) -> Access
+    ensures { λ r. ⌜ r ≡ accessIn facet ⌝ }
 {
-    let Facet::StorageImage { access } = f else {
+    let Facet::StorageImage { access } = facet else {
         return Access::Nothing;
     };
     Access::Of(access)
 }
 
 // The base of a BindingArray.
-pub fn base_in(f: Facet) -> Base
-    ensures { λ r. ⌜ r ≡ baseIn f ⌝ }
+pub fn base_in(facet: Facet) -> Base
+    ensures { λ r. ⌜ r ≡ baseIn facet ⌝ }
 {
-    let Facet::BindingArray { base } = f else {
+    let Facet::BindingArray { base } = facet else {
         return Base::Nothing;
     };
     Base::Of(base)
 }
 
 // The base of an Array.
-pub fn element_in(f: Facet) -> Base
-    ensures { λ r. ⌜ r ≡ elementIn f ⌝ }
+pub fn element_in(facet: Facet) -> Base
+    ensures { λ r. ⌜ r ≡ elementIn facet ⌝ }
 {
-    let Facet::Array { base, dynamic: _ } = f else {
+    let Facet::Array { base, dynamic: _ } = facet else {
         return Base::Nothing;
     };
     Base::Of(base)
 }
 
 // Whether it is a Pointer or a ValuePointer.
-pub fn pointer_in(f: Facet) -> bool
-    ensures { λ r. ⌜ r ≡ pointerIn f ⌝ }
+pub fn pointer_in(facet: Facet) -> bool
+    ensures { λ r. ⌜ r ≡ pointerIn facet ⌝ }
 {
-    match f {
+    match facet {
         Facet::Matrix { stride: _ } => false,
         Facet::Array {
             base: _,

@@ -46,47 +46,47 @@ pub enum Base {
 // ---- what is asked of type i of the first n
 
 // The column stride of a matrix, or of the matrices of an array.
-pub fn element_stride(s: &[u8], types: &[u32], n: usize, i: usize) -> Number
-    requires { ⌜ n ≤ length (now types) ⌝ }
-    ensures { λ r. ⌜ numberOf r ≡ matrixStride (elementOf (typesFrom (now (s .entry)) (now (types .entry)) n) (innerAt (typesFrom (now (s .entry)) (now (types .entry)) n) i)) ⌝ }
+pub fn element_stride(sheet: &[u8], types: &[u32], ntypes: usize, index: usize) -> Number
+    requires { ⌜ ntypes ≤ length (now types) ⌝ }
+    ensures { λ r. ⌜ numberOf r ≡ matrixStride (elementOf (typesFrom (now (sheet .entry)) (now (types .entry)) ntypes) (innerAt (typesFrom (now (sheet .entry)) (now (types .entry)) ntypes) index)) ⌝ }
 {
-    let f = facet_at(s, types, n, i);
+    let f = facet_at(sheet, types, ntypes, index);
     match element_in(f) {
         Base::Nothing => stride_in(f),
-        Base::Of(b) => stride_in(facet_at(s, types, n, b as usize)),
+        Base::Of(b) => stride_in(facet_at(sheet, types, ntypes, b as usize)),
     }
 }
 
 // Whether it is a dynamic array; a BindingArray never is.
-pub fn is_dynamic(s: &[u8], types: &[u32], n: usize, i: usize) -> bool
-    requires { ⌜ n ≤ length (now types) ⌝ }
-    ensures { λ r. ⌜ r ≡ isDynamic (innerAt (typesFrom (now (s .entry)) (now (types .entry)) n) i) ⌝ }
+pub fn is_dynamic(sheet: &[u8], types: &[u32], ntypes: usize, index: usize) -> bool
+    requires { ⌜ ntypes ≤ length (now types) ⌝ }
+    ensures { λ r. ⌜ r ≡ isDynamic (innerAt (typesFrom (now (sheet .entry)) (now (types .entry)) ntypes) index) ⌝ }
 {
-    dynamic_in(facet_at(s, types, n, i))
+    dynamic_in(facet_at(sheet, types, ntypes, index))
 }
 
 // The access of a storage image.
-pub fn image_access(s: &[u8], types: &[u32], n: usize, i: usize) -> Access
-    requires { ⌜ n ≤ length (now types) ⌝ }
-    ensures { λ r. ⌜ byteOf r ≡ imageAccess (innerAt (typesFrom (now (s .entry)) (now (types .entry)) n) i) ⌝ }
+pub fn image_access(sheet: &[u8], types: &[u32], ntypes: usize, index: usize) -> Access
+    requires { ⌜ ntypes ≤ length (now types) ⌝ }
+    ensures { λ r. ⌜ byteOf r ≡ imageAccess (innerAt (typesFrom (now (sheet .entry)) (now (types .entry)) ntypes) index) ⌝ }
 {
-    access_in(facet_at(s, types, n, i))
+    access_in(facet_at(sheet, types, ntypes, index))
 }
 
 // The base of a BindingArray.
-pub fn binding_base(s: &[u8], types: &[u32], n: usize, i: usize) -> Base
-    requires { ⌜ n ≤ length (now types) ⌝ }
-    ensures { λ r. ⌜ indexOf r ≡ bindingBase (innerAt (typesFrom (now (s .entry)) (now (types .entry)) n) i) ⌝ }
+pub fn binding_base(sheet: &[u8], types: &[u32], ntypes: usize, index: usize) -> Base
+    requires { ⌜ ntypes ≤ length (now types) ⌝ }
+    ensures { λ r. ⌜ indexOf r ≡ bindingBase (innerAt (typesFrom (now (sheet .entry)) (now (types .entry)) ntypes) index) ⌝ }
 {
-    base_in(facet_at(s, types, n, i))
+    base_in(facet_at(sheet, types, ntypes, index))
 }
 
 // Whether it is a Pointer or a ValuePointer.
-pub fn is_pointer(s: &[u8], types: &[u32], n: usize, i: usize) -> bool
-    requires { ⌜ n ≤ length (now types) ⌝ }
-    ensures { λ r. ⌜ r ≡ isPointer (innerAt (typesFrom (now (s .entry)) (now (types .entry)) n) i) ⌝ }
+pub fn is_pointer(sheet: &[u8], types: &[u32], ntypes: usize, index: usize) -> bool
+    requires { ⌜ ntypes ≤ length (now types) ⌝ }
+    ensures { λ r. ⌜ r ≡ isPointer (innerAt (typesFrom (now (sheet .entry)) (now (types .entry)) ntypes) index) ⌝ }
 {
-    pointer_in(facet_at(s, types, n, i))
+    pointer_in(facet_at(sheet, types, ntypes, index))
 }
 
 // ---- wrappers
@@ -153,31 +153,37 @@ fn wraps_space(space: AddressSpace) -> bool
 
 // Whether a global of type i of the first n and of a space is wrapped in a struct.
 pub fn global_needs_wrapper(
-    s: &[u8],
+    sheet: &[u8],
     types: &[u32],
-    n: usize,
-    i: usize,
+    ntypes: usize,
+    index: usize,
     space: AddressSpace,
 ) -> bool
-    requires { ⌜ n ≤ length (now types) ⌝ }
-    ensures { λ r. ⌜ ((g : Global) → g .type ≡ i → g .space ≡ spaceNumber space → r ≡ needsWrapper (typesFrom (now (s .entry)) (now (types .entry)) n) g) ⌝ }
+    requires { ⌜ ntypes ≤ length (now types) ⌝ }
+    ensures { λ r. ⌜ ((g : Global) → g .type ≡ index → g .space ≡ spaceNumber space → r ≡ needsWrapper (typesFrom (now (sheet .entry)) (now (types .entry)) ntypes) g) ⌝ }
 {
     if !wraps_space(space) {
         return false;
     }
-    wraps_type(s, types, n, i)
+    wraps_type(sheet, types, ntypes, index)
 }
 
 // ---- remaps
 
 // The size to which the first of n remaps that fits maps a group and a binding.
-pub fn remap_of(s: &[u8], remaps: &[u32], n: usize, group: u32, binding: u32) -> Number
-    requires { ⌜ n ≤ length (now remaps) ⌝ }
-    ensures { λ r. ⌜ numberOf r ≡ remapOf (map (remapFrom (now (s .entry))) (take n (now (remaps .entry)))) group binding ⌝ }
+pub fn remapped_size_of(
+    sheet: &[u8],
+    remaps: &[u32],
+    nremaps: usize,
+    group: u32,
+    binding: u32,
+) -> Number
+    requires { ⌜ nremaps ≤ length (now remaps) ⌝ }
+    ensures { λ r. ⌜ numberOf r ≡ remapOf (map (remapFrom (now (sheet .entry))) (take nremaps (now (remaps .entry)))) group binding ⌝ }
 {
     let mut k = 0;
-    'entries: while k < n {
-        let m = entries::globals::remap_at(s, remaps, k);
+    'entries: while k < nremaps {
+        let m = entries::globals::remap_at(sheet, remaps, k);
         k += 1;
         if m.group != group {
             continue 'entries;

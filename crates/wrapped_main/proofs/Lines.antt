@@ -13,7 +13,7 @@ use Rattle.definition.specs.Operations.{Progress, Wrapping, Wraps, wrappingOf, 
 use Rattle.definition.specs.Operations.{Verdict as Meant}
 use Rattle.declarations.specs.declared.Verdict.{Verdict}
 use Rattle.declarations.specs.Promise.{CheckPromise, verdictAs}
-use Rattle.printing.specs.Text.{answerOf, Put, Printed}
+use Rattle.printing.specs.Text.{yesOrNo, PutText, Printed}
 use Rattle.printing.proofs.Runs.{sets-append, printed}
 use Rattle.printing.proofs.Long.{held, judged-held}
 use Rattle.wrapped_main.specs.Answers.{lineAnd, answersFrom, answers, textOf, answerTo}
@@ -29,7 +29,7 @@ pub record Begun (s before text : List ℕ) (at i left : ℕ) : Type 0 where
 pub start : (s before : List ℕ) → Begun s before before 0 0 64
 start s before = record { globals = refl; place = omega arith; size = refl; whole = refl; behind = omega arith }
 
-line-short : (y : Bool) → length (answerOf y) ≤ 4
+line-short : (y : Bool) → length (yesOrNo y) ≤ 4
 line-short true = omega arith
 line-short false = omega arith
 
@@ -50,21 +50,21 @@ module _ (s before text : List ℕ) (at i left : ℕ) (b : Begun s before text a
         ∙ ap (λ (n : ℕ). lineAnd w (answersFrom s k n)) (sym (add-one i))
 
     -- a turn
-    pub more : (y : Bool) (text′ : List ℕ) (at′ : ℕ) → wrapped s i ≡ Wraps y → Put (answerOf y) text at text′ at′ → Begun s before text′ at′ (i + 1) k
+    pub more : (y : Bool) (text′ : List ℕ) (at′ : ℕ) → wrapped s i ≡ Wraps y → PutText (yesOrNo y) text at text′ at′ → Begun s before text′ at′ (i + 1) k
     more y text′ at′ h p =
         let rest = answersFrom s k (i + 1) in
-        let q : answersFrom s left i ≡ answerOf y ++ rest = next (Wraps y) h in
+        let q : answersFrom s left i ≡ yesOrNo y ++ rest = next (Wraps y) h in
         record {
           globals = omega (arith, b .globals);
           place = omega (arith, b .place, p .next, line-short y);
-          size = ap length (p .text) ∙ length-sets text at (answerOf y) ∙ b .size;
+          size = ap length (p .text) ∙ length-sets text at (yesOrNo y) ∙ b .size;
           whole =
               ap (λ (z : List ℕ). sets z at′ rest) (p .text)
-              ∙ ap (λ (n : ℕ). sets (sets text at (answerOf y)) n rest) (p .next)
-              ∙ sym (sets-append text at (answerOf y) rest)
+              ∙ ap (λ (n : ℕ). sets (sets text at (yesOrNo y)) n rest) (p .next)
+              ∙ sym (sets-append text at (yesOrNo y) rest)
               ∙ sym (ap (sets text at) q)
               ∙ b .whole;
-          behind = omega (arith, p .next, b .behind, ap length q ∙ length-append (answerOf y) rest);
+          behind = omega (arith, p .next, b .behind, ap length q ∙ length-append (yesOrNo y) rest);
         }
 
     -- no such global

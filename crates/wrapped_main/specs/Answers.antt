@@ -4,11 +4,11 @@ use Prim.Native.Nat.{ℕ, zero, suc}
 use mathlib.Core.List.{List, [], _++_}
 use Rattle.definition.specs.Tests.{globalsMost}
 use Rattle.definition.specs.Operations.{Verdict, Fit, check, Wrapping, Wraps, wrapped}
-use Rattle.printing.specs.Text.{answerOf, refusalOf}
+use Rattle.printing.specs.Text.{yesOrNo, refusalOf}
 
 -- a global's line and those that follow it; none where there is no such global
 abbrev pub lineAnd : Wrapping → List ℕ → List ℕ
-lineAnd (Wraps y) lines = answerOf y ++ lines
+lineAnd (Wraps y) lines = yesOrNo y ++ lines
 lineAnd (Wrapping.Refused n) lines = []
 
 -- the lines of at most k globals, from global i on

@@ -27,7 +27,7 @@ fn put_answers(sheet: &[u8], text: &mut [u8]) -> usize
     let mut left = GLOBALS_MOST;
     while left > 0 {
         match declarations::wrapped(sheet, i) {
-            Wrapping::Wraps(yes) => at = printing::put_answer(text, at, yes),
+            Wrapping::Wraps(yes) => at = printing::put_yes_or_no(text, at, yes),
             Wrapping::Refused(_) => return at,
         }
         i += 1;

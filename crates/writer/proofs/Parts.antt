@@ -14,11 +14,11 @@ use borrow.Author.Tests.{eq-eqb, ne-eqb, eqb-true, lt-ltb, le-ltb}
 use Rattle.definition.specs.Choice.{pick}
 use Rattle.definition.specs.Shapes.{Key}
 use Rattle.definition.specs.State.{Composite, composite, sameComposite, lookup}
-use Rattle.lookup.specs.Packed.{packed, Small}
+use Rattle.lookup.specs.Packed.{packedKey, Small}
 use Rattle.lookup.proofs.Injective.{injective}
 use Rattle.writer.specs.declared.Writer.{Writer}
 use Rattle.writer.specs.declared.Sought.{Sought}
-use Rattle.writer.specs.Rows.{Row, row, triple, rows, part, sameList, seekParts, soughtOf}
+use Rattle.writer.specs.Rows.{TableRow, tableRow, triple, tableRows, part, sameList, seekParts, soughtOf}
 use Rattle.writer.specs.Regions.{compositesAt, partsAt}
 use Rattle.writer.specs.Cost.{staging}
 use Rattle.writer.specs.Held.{Tables, All, keyOfC, partsOfC, compositeRow, allParts, RoomIn}
@@ -128,16 +128,16 @@ module _ (key : ℕ) (ps : List ℕ) (q : ℕ) (T : List ℕ) (p o : ℕ) where
 
 -- ---- a table's rows and its parts
 
-no-row : Row
-no-row = row 0 0 0
+no-row : TableRow
+no-row = tableRow 0 0 0
 
 whole : (c : Composite) → c ≡ composite (keyOfC c) (partsOfC c)
 whole (composite k ps) = refl
 
 pub seek-composite : (k : Key) → Small k → (xs : List ℕ) (q : ℕ) (T : List ℕ) (p o n : ℕ) (cs : List (Composite × ℕ)) → All (λ (c : Composite). Small (keyOfC c)) cs
-    → rows triple T p n ≡ map compositeRow cs → o ≤ q → q ≤ length T → part T o (q - o) ≡ allParts cs
-    → seekParts (packed k) xs q T p o n ≡ lookup sameComposite (composite k xs) cs
-unfolding seekParts rows allParts lookup
+    → tableRows triple T p n ≡ map compositeRow cs → o ≤ q → q ≤ length T → part T o (q - o) ≡ allParts cs
+    → seekParts (packedKey k) xs q T p o n ≡ lookup sameComposite (composite k xs) cs
+unfolding seekParts tableRows allParts lookup
 seek-composite k sk xs q T p o zero [] a e ho hq f = refl
 seek-composite k sk xs q T p o zero (c ∷ cs) a e ho hq f = let z : _≡_ {A = ℕ} 0 1 = cc in absurd (omega arith)
 seek-composite k sk xs q T p o (suc n) [] a e ho hq f = let z : _≡_ {A = ℕ} 0 1 = cc in absurd (omega arith)
@@ -145,10 +145,10 @@ seek-composite k sk xs q T p o (suc n) (c ∷ cs) a e ho hq f =
     let ps = partsOfC (c .0) in
     let l = getD T (p + 1) 0 in
     let X = drop o T in
-    let e0 : getD T p 0 ≡ packed (keyOfC (c .0)) = ap (λ (r : List Row). getD r 0 no-row .first) e in
-    let e1 : l ≡ length ps = ap (λ (r : List Row). getD r 0 no-row .second) e in
-    let e2 : getD T (p + 2) 0 ≡ c .1 = ap (λ (r : List Row). getD r 0 no-row .id) e in
-    let et : rows triple T (p + 3) n ≡ map compositeRow cs = ap (drop 1) e in
+    let e0 : getD T p 0 ≡ packedKey (keyOfC (c .0)) = ap (λ (r : List TableRow). getD r 0 no-row .first) e in
+    let e1 : l ≡ length ps = ap (λ (r : List TableRow). getD r 0 no-row .second) e in
+    let e2 : getD T (p + 2) 0 ≡ c .1 = ap (λ (r : List TableRow). getD r 0 no-row .id) e in
+    let et : tableRows triple T (p + 3) n ≡ map compositeRow cs = ap (drop 1) e in
     let w : q - o ≡ length ps + length (allParts cs) = sym (part-length T o (q - o) (omega arith)) ∙ ap length f ∙ length-append ps (allParts cs) in
     let h : l ≤ q - o = omega arith in
     let g : part T o l ≡ ps = sym (take-take l (q - o) X h) ∙ ap (take l) f ∙ take-at ps (allParts cs) l (sym e1) in
@@ -159,17 +159,17 @@ seek-composite k sk xs q T p o (suc n) (c ∷ cs) a e ho hq f =
     ∙ ap (drop l) (sym (take-add l (q - (o + l)) X) ∙ ap (λ (j : ℕ). take j X) (sym m) ∙ f)
     ∙ drop-at ps (allParts cs) l (sym e1) in
     let rec = seek-composite k sk xs q T (p + 3) (o + l) n cs (a .1) et (omega arith) hq r in
-    rw (le-ltb (q - o) l h) (rw (e0, g, e2) (go (sameComposite (composite k xs) (c .0)) rec (eqb (packed (keyOfC (c .0))) (packed k)) (sameList ps xs) refl refl))
+    rw (le-ltb (q - o) l h) (rw (e0, g, e2) (go (sameComposite (composite k xs) (c .0)) rec (eqb (packedKey (keyOfC (c .0))) (packedKey k)) (sameList ps xs) refl refl))
   where
     go : (d : Dec (composite k xs ≡ c .0)) → {rest : Option ℕ} → rest ≡ lookup sameComposite (composite k xs) cs
-        → (b t : Bool) → eqb (packed (keyOfC (c .0))) (packed k) ≡ b → sameList (partsOfC (c .0)) xs ≡ t
-        → pick (eqb (packed (keyOfC (c .0))) (packed k) && sameList (partsOfC (c .0)) xs) (some (c .1)) rest
+        → (b t : Bool) → eqb (packedKey (keyOfC (c .0))) (packedKey k) ≡ b → sameList (partsOfC (c .0)) xs ≡ t
+        → pick (eqb (packedKey (keyOfC (c .0))) (packedKey k) && sameList (partsOfC (c .0)) xs) (some (c .1)) rest
         ≡ elim d [ yes x ↦ some (c .1) | no x ↦ lookup sameComposite (composite k xs) cs ]
     go (yes x) r b t u v =
         let y : keyOfC (c .0) ≡ k = sym (ap keyOfC x) in
         let z : partsOfC (c .0) ≡ xs = sym (ap partsOfC x) in
         let i : sameList (partsOfC (c .0)) xs ≡ true = ap (λ (j : List ℕ). sameList j xs) z ∙ list-same xs in
-        rw (eq-eqb (packed (keyOfC (c .0))) (packed k) (ap packed y), i)
+        rw (eq-eqb (packedKey (keyOfC (c .0))) (packedKey k) (ap packedKey y), i)
     go (no x) r true true u v =
         let y : keyOfC (c .0) ≡ k = injective (keyOfC (c .0)) k (a .0) sk (eqb-true _ _ u) in
         let z : partsOfC (c .0) ≡ xs = list-equal (partsOfC (c .0)) xs v in

@@ -8,7 +8,7 @@ use native.Mathlib.Omega.{arith}
 use lib.ListN.{length, getD, take, drop, length-append, length-take, length-drop, List·getD-append}
 use lib.Seq.{length-take-le, getD-take, getD-drop, getD-append-add, ext-getD, take-add, drop-drop, take-at, drop-at, drop-append-add}
 use Rattle.spirv.specs.Sections.{splice}
-use Rattle.writer.specs.Rows.{Row, row, RowKind, pair, triple, rowLength, rowAt, rows, part}
+use Rattle.writer.specs.Rows.{TableRow, tableRow, RowKind, pair, triple, rowLength, rowAt, tableRows, part}
 
 -- the lists have the same elements in a region
 abbrev pub Agree : List ℕ → List ℕ → ℕ → ℕ → Type 0
@@ -79,57 +79,57 @@ row-agrees : (k : RowKind) (xs ys : List ℕ) (b n : ℕ) → Agree xs ys b (row
 row-agrees pair xs ys b n h =
     let p = h b (omega arith) (omega arith) in
     let q = h (b + 1) (omega arith) (omega arith) in
-    λ i. row (p i) 0 (q i)
+    λ i. tableRow (p i) 0 (q i)
 row-agrees triple xs ys b n h =
     let p = h b (omega arith) (omega arith) in
     let q = h (b + 1) (omega arith) (omega arith) in
     let r = h (b + 2) (omega arith) (omega arith) in
-    λ i. row (p i) (q i) (r i)
+    λ i. tableRow (p i) (q i) (r i)
 
-pub rows-agree : (k : RowKind) (xs ys : List ℕ) (b n : ℕ) → Agree xs ys b (rowLength k * n) → rows k ys b n ≡ rows k xs b n
-unfolding rows
+pub rows-agree : (k : RowKind) (xs ys : List ℕ) (b n : ℕ) → Agree xs ys b (rowLength k * n) → tableRows k ys b n ≡ tableRows k xs b n
+unfolding tableRows
 rows-agree k xs ys b zero h = refl
 rows-agree k xs ys b (suc n) h =
     let r = row-agrees k xs ys b n h in
     let t = rows-agree k xs ys (b + rowLength k) n (λ j l u. h j (omega arith) (omega arith)) in
     λ i. r i ∷ t i
 
-rows-last : (k : RowKind) (ys : List ℕ) (b n : ℕ) → rows k ys b (suc n) ≡ rows k ys b n ++ rowAt k ys (b + rowLength k * n) ∷ []
-unfolding rows
+rows-last : (k : RowKind) (ys : List ℕ) (b n : ℕ) → tableRows k ys b (suc n) ≡ tableRows k ys b n ++ rowAt k ys (b + rowLength k * n) ∷ []
+unfolding tableRows
 rows-last k ys b zero =
     let e : b ≡ b + rowLength k * 0 = omega arith in
     ap (λ (j : ℕ). rowAt k ys j ∷ []) e
 rows-last k ys b (suc n) =
     let e : b + rowLength k + rowLength k * n ≡ b + rowLength k * suc n = omega arith in
-    let t = rows-last k ys (b + rowLength k) n ∙ ap (λ (j : ℕ). rows k ys (b + rowLength k) n ++ rowAt k ys j ∷ []) e in
-    ap (λ (l : List Row). rowAt k ys b ∷ l) t
+    let t = rows-last k ys (b + rowLength k) n ∙ ap (λ (j : ℕ). tableRows k ys (b + rowLength k) n ++ rowAt k ys j ∷ []) e in
+    ap (λ (l : List TableRow). rowAt k ys b ∷ l) t
 
 -- what is written is a row
-pub pair-put : (xs : List ℕ) (p a i : ℕ) → p + 2 ≤ length xs → rowAt pair (splice xs p (a ∷ i ∷ [])) p ≡ row a 0 i
+pub pair-put : (xs : List ℕ) (p a i : ℕ) → p + 2 ≤ length xs → rowAt pair (splice xs p (a ∷ i ∷ [])) p ≡ tableRow a 0 i
 pair-put xs p a i h =
     let ws = a ∷ i ∷ [] in
     let z : p ≡ p + 0 = omega arith in
     let q0 = ap (λ (j : ℕ). getD (splice xs p ws) j 0) z ∙ inside xs p ws h 0 (omega arith) in
     let q1 = inside xs p ws h 1 (omega arith) in
-    λ t. row (q0 t) 0 (q1 t)
+    λ t. tableRow (q0 t) 0 (q1 t)
 
-pub triple-put : (xs : List ℕ) (p a c i : ℕ) → p + 3 ≤ length xs → rowAt triple (splice xs p (a ∷ c ∷ i ∷ [])) p ≡ row a c i
+pub triple-put : (xs : List ℕ) (p a c i : ℕ) → p + 3 ≤ length xs → rowAt triple (splice xs p (a ∷ c ∷ i ∷ [])) p ≡ tableRow a c i
 triple-put xs p a c i h =
     let ws = a ∷ c ∷ i ∷ [] in
     let z : p ≡ p + 0 = omega arith in
     let q0 = ap (λ (j : ℕ). getD (splice xs p ws) j 0) z ∙ inside xs p ws h 0 (omega arith) in
     let q1 = inside xs p ws h 1 (omega arith) in
     let q2 = inside xs p ws h 2 (omega arith) in
-    λ t. row (q0 t) (q1 t) (q2 t)
+    λ t. tableRow (q0 t) (q1 t) (q2 t)
 
 -- one row more
-pub rows-more : (k : RowKind) (xs : List ℕ) (b n p : ℕ) (ws : List ℕ) (r : Row) → p ≡ b + rowLength k * n → p + length ws ≤ length xs
-    → rowAt k (splice xs p ws) p ≡ r → rows k (splice xs p ws) b (n + 1) ≡ rows k xs b n ++ r ∷ []
+pub rows-more : (k : RowKind) (xs : List ℕ) (b n p : ℕ) (ws : List ℕ) (r : TableRow) → p ≡ b + rowLength k * n → p + length ws ≤ length xs
+    → rowAt k (splice xs p ws) p ≡ r → tableRows k (splice xs p ws) b (n + 1) ≡ tableRows k xs b n ++ r ∷ []
 rows-more k xs b n p ws r e h f =
     let ys = splice xs p ws in
-    let u : rows k ys b n ≡ rows k xs b n = rows-agree k xs ys b n (left xs p ws h b (rowLength k * n) (omega arith)) in
+    let u : tableRows k ys b n ≡ tableRows k xs b n = rows-agree k xs ys b n (left xs p ws h b (rowLength k * n) (omega arith)) in
     let v : rowAt k ys (b + rowLength k * n) ≡ r = ap (λ (j : ℕ). rowAt k ys j) (sym e) ∙ f in
-    ap (rows k ys b) (add-one n) ∙ rows-last k ys b n ∙ (λ t. u t ++ v t ∷ [])
+    ap (tableRows k ys b) (add-one n) ∙ rows-last k ys b n ∙ (λ t. u t ++ v t ∷ [])
 
 -- ---- words
 

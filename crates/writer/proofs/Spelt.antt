@@ -4,16 +4,16 @@ use mathlib.Core.Path.{_≡_, refl, sym}
 use mathlib.Core.List.{List, [], _∷_, map}
 use native.Mathlib.Omega.{arith}
 use lib.ListN.{length, getD}
-use Rattle.definition.specs.Instructions.{Instruction, words, decorate, memberDecorate, typeArray, typeRuntimeArray, typeStruct, typePointer, constantTrue, constantFalse, constantNull, constant, constantComposite, variable}
+use Rattle.definition.specs.Instructions.{Instruction, words, decorate, memberDecorate, typeArray, typeRuntimeArray, typeStruct, typePointer, constantTrue, constantFalse, constantNull, constantOp, constantComposite, variable}
 use Rattle.spirv.specs.declared.instructions.Initializer.{Initializer}
 use Rattle.spirv.specs.declared.instructions.Initializer.the-variants.{Nothing, Id}
 use Rattle.spirv.specs.Put.{Put}
-use Rattle.spirv.specs.Ids.{low, initOf, initWord}
+use Rattle.spirv.specs.Ids.{low, initializerOf, initWord}
 use Rattle.spirv.proofs.Ids.{low-length, low-words}
 use Rattle.spirv.proofs.Puts as Puts
 use Rattle.writer.specs.declared.Writer.{Writer}
 use Rattle.writer.specs.Regions.{sectionAt, Section, used, more}
-use Rattle.writer.specs.Cost.{wordsIn}
+use Rattle.writer.specs.Cost.{sectionWords}
 use Rattle.writer.specs.Held.{RoomFor}
 use Rattle.writer.specs.Steps.{Spelt, Puts as PutsOne}
 use Rattle.writer.proofs.Words.{adds-put, adds-count, puts}
@@ -24,7 +24,7 @@ pub record Spells (n : ℕ) (i : Instruction) (ws : List ℕ) : Type 0 where
   pub spelt : Spelt i ws
 
 -- put into the part that was lent, they are put behind those of their section
-module _ (b : Section) {n : ℕ} {i : Instruction} {ws : List ℕ} (k : Spells n i ws) {w : Writer} {S z : List ℕ} {m : ℕ} (room : RoomFor (wordsIn b n) w S) (put : Put ws (Puts.part S (sectionAt b w + used b w)) z m) where
+module _ (b : Section) {n : ℕ} {i : Instruction} {ws : List ℕ} (k : Spells n i ws) {w : Writer} {S z : List ℕ} {m : ℕ} (room : RoomFor (sectionWords b n) w S) (put : Put ws (Puts.part S (sectionAt b w + used b w)) z m) where
   pub put-few : m ≤ n
   put-few = omega (arith, k .few, adds-count w S ws n (k .few) b z m room put)
 
@@ -98,7 +98,7 @@ null ty id hty hid =
     let eid = sym hid in
     record { few = omega arith; spelt = λ j. 196654 ∷ ety j ∷ eid j ∷ [] }
 
-pub one-word : (ty id value : ℕ) {ty′ id′ : ℕ} → ty′ ≡ low ty → id′ ≡ low id → value < 4294967296 → Spells 4 (constant ty id (value ∷ [])) (words (constant ty′ id′ (value ∷ [])))
+pub one-word : (ty id value : ℕ) {ty′ id′ : ℕ} → ty′ ≡ low ty → id′ ≡ low id → value < 4294967296 → Spells 4 (constantOp ty id (value ∷ [])) (words (constantOp ty′ id′ (value ∷ [])))
 unfolding words
 one-word ty id value hty hid hvalue =
     let ety = sym hty in
@@ -106,7 +106,7 @@ one-word ty id value hty hid hvalue =
     let evalue : low value ≡ value = omega arith in
     record { few = omega arith; spelt = λ j. 262187 ∷ ety j ∷ eid j ∷ evalue j ∷ [] }
 
-pub two-words : (ty id a b : ℕ) {ty′ id′ : ℕ} → ty′ ≡ low ty → id′ ≡ low id → a < 4294967296 → b < 4294967296 → Spells 5 (constant ty id (a ∷ b ∷ [])) (words (constant ty′ id′ (a ∷ b ∷ [])))
+pub two-words : (ty id a b : ℕ) {ty′ id′ : ℕ} → ty′ ≡ low ty → id′ ≡ low id → a < 4294967296 → b < 4294967296 → Spells 5 (constantOp ty id (a ∷ b ∷ [])) (words (constantOp ty′ id′ (a ∷ b ∷ [])))
 unfolding words
 two-words ty id a b hty hid ha hb =
     let ety = sym hty in
@@ -132,7 +132,7 @@ composite-of ty id xs e g few =
     let q = sym g in
     record { few = omega (arith, l); spelt = λ j. f j ∷ p j ∷ q j ∷ map low xs }
 
-pub variable-of : (ty id class : ℕ) (o : Initializer) {ty′ id′ : ℕ} → ty′ ≡ low ty → id′ ≡ low id → class < 4294967296 → Spells 5 (variable ty id class (initOf o)) (words (variable ty′ id′ class (initWord o)))
+pub variable-of : (ty id class : ℕ) (o : Initializer) {ty′ id′ : ℕ} → ty′ ≡ low ty → id′ ≡ low id → class < 4294967296 → Spells 5 (variable ty id class (initializerOf o)) (words (variable ty′ id′ class (initWord o)))
 unfolding words
 variable-of ty id class Nothing e g h =
     let p = sym e in

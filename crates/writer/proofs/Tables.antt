@@ -10,16 +10,16 @@ use Rattle.definition.specs.State.{Composite, composite, Valued}
 use Rattle.lookup.specs.Packed.{Small}
 use Rattle.spirv.specs.Sections.{splice}
 use Rattle.writer.specs.declared.Writer.{Writer}
-use Rattle.writer.specs.Rows.{Row, row, RowKind, pair, triple, rowLength, rows, part}
+use Rattle.writer.specs.Rows.{TableRow, tableRow, RowKind, pair, triple, rowLength, tableRows, part}
 use Rattle.writer.specs.Regions.{literalsAt, nullsAt, valuesAt, compositesAt, partsAt}
 use Rattle.writer.specs.Cost.{aType, aLiteral, aNull, aValue, aComposite}
 use Rattle.writer.specs.Held.{Tables, tablesOf, tablesIn, keyRow, literalRow, nullRow, valueRow, compositeRow, keyOfC, partsOfC, allParts, All, AllKinds, SmallKind, RoomIn}
 use Rattle.writer.specs.Steps.{EnteredType, EnteredLiteral, EnteredNull, EnteredComposite, EnteredValue}
 use Rattle.writer.proofs.Regions.{left, right, behind, rows-agree, pair-put, triple-put, rows-more, part-right}
 
-map-snoc : {A : Type 0} (f : A → Row) (xs : List A) (x : A) → map f xs ++ f x ∷ [] ≡ map f (xs ++ x ∷ [])
+map-snoc : {A : Type 0} (f : A → TableRow) (xs : List A) (x : A) → map f xs ++ f x ∷ [] ≡ map f (xs ++ x ∷ [])
 map-snoc f [] x = refl
-map-snoc f (y ∷ ys) x = ap (λ (l : List Row). f y ∷ l) (map-snoc f ys x)
+map-snoc f (y ∷ ys) x = ap (λ (l : List TableRow). f y ∷ l) (map-snoc f ys x)
 
 all-snoc : {A : Type 0} (P : A → Type 0) (t : List (A × ℕ)) (k : A) (id : ℕ) → P k → All P t → All P (t ++ (k, id) ∷ [])
 all-snoc P [] k id p h = (p, tt)
@@ -41,22 +41,22 @@ abbrev pub moreComposites : Writer → ℕ → Writer
 moreComposites w n = record { records = w .records; bytes = w .bytes; idgen = w .idgen; types = w .types; literals = w .literals; nulls = w .nulls; values = w .values; composites = w .composites + 1; parts = w .parts + n; capabilities = w .capabilities; names = w .names; annotations = w .annotations; declarations = w .declarations }
 
 -- a table to the left of what is written, and one to the right
-before : (k : RowKind) (T : List ℕ) (p : ℕ) (ws : List ℕ) (c n : ℕ) → p + length ws ≤ length T → c + rowLength k * n ≤ p → rows k (splice T p ws) c n ≡ rows k T c n
+before : (k : RowKind) (T : List ℕ) (p : ℕ) (ws : List ℕ) (c n : ℕ) → p + length ws ≤ length T → c + rowLength k * n ≤ p → tableRows k (splice T p ws) c n ≡ tableRows k T c n
 before k T p ws c n l h = rows-agree k T (splice T p ws) c n (left T p ws l c (rowLength k * n) h)
 
-after : (k : RowKind) (T : List ℕ) (p : ℕ) (ws : List ℕ) (c n : ℕ) → p + length ws ≤ length T → p + length ws ≤ c → rows k (splice T p ws) c n ≡ rows k T c n
+after : (k : RowKind) (T : List ℕ) (p : ℕ) (ws : List ℕ) (c n : ℕ) → p + length ws ≤ length T → p + length ws ≤ c → tableRows k (splice T p ws) c n ≡ tableRows k T c n
 after k T p ws c n l h = rows-agree k T (splice T p ws) c n (right T p ws l c (rowLength k * n) h)
 
 module _ (w : Writer) (T : List ℕ) where
   -- ---- types
 
   types-row : (a id : ℕ) → RoomIn aType w T → tablesOf (moreTypes w) (splice T (2 * w .types) (a ∷ id ∷ []))
-      ≡ record { types = tablesOf w T .types ++ row a 0 id ∷ []; literals = tablesOf w T .literals; nulls = tablesOf w T .nulls; values = tablesOf w T .values; composites = tablesOf w T .composites; parts = tablesOf w T .parts }
+      ≡ record { types = tablesOf w T .types ++ tableRow a 0 id ∷ []; literals = tablesOf w T .literals; nulls = tablesOf w T .nulls; values = tablesOf w T .values; composites = tablesOf w T .composites; parts = tablesOf w T .parts }
   types-row a id room =
       let p = 2 * w .types in
       let ws = a ∷ id ∷ [] in
       λ i. record {
-        types = rows-more pair T 0 (w .types) p ws (row a 0 id) (omega arith) (omega arith) (pair-put T p a id (omega arith)) i;
+        types = rows-more pair T 0 (w .types) p ws (tableRow a 0 id) (omega arith) (omega arith) (pair-put T p a id (omega arith)) i;
         literals = after triple T p ws (literalsAt w) (w .literals) (omega arith) (omega arith) i;
         nulls = after pair T p ws (nullsAt w) (w .nulls) (omega arith) (omega arith) i;
         values = after triple T p ws (valuesAt w) (w .values) (omega arith) (omega arith) i;
@@ -67,13 +67,13 @@ module _ (w : Writer) (T : List ℕ) where
   -- ---- literals
 
   literals-row : (a b id : ℕ) → RoomIn aLiteral w T → tablesOf (moreLiterals w) (splice T (literalsAt w + 3 * w .literals) (a ∷ b ∷ id ∷ []))
-      ≡ record { types = tablesOf w T .types; literals = tablesOf w T .literals ++ row a b id ∷ []; nulls = tablesOf w T .nulls; values = tablesOf w T .values; composites = tablesOf w T .composites; parts = tablesOf w T .parts }
+      ≡ record { types = tablesOf w T .types; literals = tablesOf w T .literals ++ tableRow a b id ∷ []; nulls = tablesOf w T .nulls; values = tablesOf w T .values; composites = tablesOf w T .composites; parts = tablesOf w T .parts }
   literals-row a b id room =
       let p = literalsAt w + 3 * w .literals in
       let ws = a ∷ b ∷ id ∷ [] in
       λ i. record {
         types = before pair T p ws 0 (w .types) (omega arith) (omega arith) i;
-        literals = rows-more triple T (literalsAt w) (w .literals) p ws (row a b id) (omega arith) (omega arith) (triple-put T p a b id (omega arith)) i;
+        literals = rows-more triple T (literalsAt w) (w .literals) p ws (tableRow a b id) (omega arith) (omega arith) (triple-put T p a b id (omega arith)) i;
         nulls = after pair T p ws (nullsAt w) (w .nulls) (omega arith) (omega arith) i;
         values = after triple T p ws (valuesAt w) (w .values) (omega arith) (omega arith) i;
         composites = after triple T p ws (compositesAt w) (w .composites) (omega arith) (omega arith) i;
@@ -83,14 +83,14 @@ module _ (w : Writer) (T : List ℕ) where
   -- ---- nulls
 
   nulls-row : (a id : ℕ) → RoomIn aNull w T → tablesOf (moreNulls w) (splice T (nullsAt w + 2 * w .nulls) (a ∷ id ∷ []))
-      ≡ record { types = tablesOf w T .types; literals = tablesOf w T .literals; nulls = tablesOf w T .nulls ++ row a 0 id ∷ []; values = tablesOf w T .values; composites = tablesOf w T .composites; parts = tablesOf w T .parts }
+      ≡ record { types = tablesOf w T .types; literals = tablesOf w T .literals; nulls = tablesOf w T .nulls ++ tableRow a 0 id ∷ []; values = tablesOf w T .values; composites = tablesOf w T .composites; parts = tablesOf w T .parts }
   nulls-row a id room =
       let p = nullsAt w + 2 * w .nulls in
       let ws = a ∷ id ∷ [] in
       λ i. record {
         types = before pair T p ws 0 (w .types) (omega arith) (omega arith) i;
         literals = before triple T p ws (literalsAt w) (w .literals) (omega arith) (omega arith) i;
-        nulls = rows-more pair T (nullsAt w) (w .nulls) p ws (row a 0 id) (omega arith) (omega arith) (pair-put T p a id (omega arith)) i;
+        nulls = rows-more pair T (nullsAt w) (w .nulls) p ws (tableRow a 0 id) (omega arith) (omega arith) (pair-put T p a id (omega arith)) i;
         values = after triple T p ws (valuesAt w) (w .values) (omega arith) (omega arith) i;
         composites = after triple T p ws (compositesAt w) (w .composites) (omega arith) (omega arith) i;
         parts = part-right T p ws (omega arith) (partsAt w) (w .parts) (omega arith) i;
@@ -99,7 +99,7 @@ module _ (w : Writer) (T : List ℕ) where
   -- ---- values
 
   values-row : (a b id : ℕ) → RoomIn aValue w T → tablesOf (moreValues w) (splice T (valuesAt w + 3 * w .values) (a ∷ b ∷ id ∷ []))
-      ≡ record { types = tablesOf w T .types; literals = tablesOf w T .literals; nulls = tablesOf w T .nulls; values = tablesOf w T .values ++ row a b id ∷ []; composites = tablesOf w T .composites; parts = tablesOf w T .parts }
+      ≡ record { types = tablesOf w T .types; literals = tablesOf w T .literals; nulls = tablesOf w T .nulls; values = tablesOf w T .values ++ tableRow a b id ∷ []; composites = tablesOf w T .composites; parts = tablesOf w T .parts }
   values-row a b id room =
       let p = valuesAt w + 3 * w .values in
       let ws = a ∷ b ∷ id ∷ [] in
@@ -107,7 +107,7 @@ module _ (w : Writer) (T : List ℕ) where
         types = before pair T p ws 0 (w .types) (omega arith) (omega arith) i;
         literals = before triple T p ws (literalsAt w) (w .literals) (omega arith) (omega arith) i;
         nulls = before pair T p ws (nullsAt w) (w .nulls) (omega arith) (omega arith) i;
-        values = rows-more triple T (valuesAt w) (w .values) p ws (row a b id) (omega arith) (omega arith) (triple-put T p a b id (omega arith)) i;
+        values = rows-more triple T (valuesAt w) (w .values) p ws (tableRow a b id) (omega arith) (omega arith) (triple-put T p a b id (omega arith)) i;
         composites = after triple T p ws (compositesAt w) (w .composites) (omega arith) (omega arith) i;
         parts = part-right T p ws (omega arith) (partsAt w) (w .parts) (omega arith) i;
       }
@@ -116,7 +116,7 @@ module _ (w : Writer) (T : List ℕ) where
 
 module _ (w : Writer) (T : List ℕ) (key n id : ℕ) (room : RoomIn (aComposite n) w T) where
   composites-row : tablesOf (moreComposites w n) (splice T (compositesAt w + 3 * w .composites) (key ∷ n ∷ id ∷ []))
-      ≡ record { types = tablesOf w T .types; literals = tablesOf w T .literals; nulls = tablesOf w T .nulls; values = tablesOf w T .values; composites = tablesOf w T .composites ++ row key n id ∷ []; parts = tablesOf w T .parts ++ part T (partsAt w + w .parts) n }
+      ≡ record { types = tablesOf w T .types; literals = tablesOf w T .literals; nulls = tablesOf w T .nulls; values = tablesOf w T .values; composites = tablesOf w T .composites ++ tableRow key n id ∷ []; parts = tablesOf w T .parts ++ part T (partsAt w + w .parts) n }
   composites-row =
       let p = compositesAt w + 3 * w .composites in
       let ws = key ∷ n ∷ id ∷ [] in
@@ -127,7 +127,7 @@ module _ (w : Writer) (T : List ℕ) (key n id : ℕ) (room : RoomIn (aComposite
         literals = before triple T p ws (literalsAt w) (w .literals) (omega arith) (omega arith) i;
         nulls = before pair T p ws (nullsAt w) (w .nulls) (omega arith) (omega arith) i;
         values = before triple T p ws (valuesAt w) (w .values) (omega arith) (omega arith) i;
-        composites = rows-more triple T (compositesAt w) (w .composites) p ws (row key n id) (omega arith) (omega arith) (triple-put T p key n id (omega arith)) i;
+        composites = rows-more triple T (compositesAt w) (w .composites) p ws (tableRow key n id) (omega arith) (omega arith) (triple-put T p key n id (omega arith)) i;
         parts = (part-right T p ws (omega arith) (partsAt w) (w .parts + n) (omega arith) ∙ d) i;
       }
 
@@ -151,13 +151,13 @@ module _ (w : Writer) (T : List ℕ) where
         record {
           last = h .last;
           tables = composites-row w T key n id room
-              ∙ ap (λ (t : Tables). record { types = t .types; literals = t .literals; nulls = t .nulls; values = t .values; composites = t .composites ++ row key n id ∷ []; parts = t .parts ++ part T (partsAt w + w .parts) n }) (h .tables)
+              ∙ ap (λ (t : Tables). record { types = t .types; literals = t .literals; nulls = t .nulls; values = t .values; composites = t .composites ++ tableRow key n id ∷ []; parts = t .parts ++ part T (partsAt w + w .parts) n }) (h .tables)
               ∙ (λ i. record {
                 types = tablesIn s .types;
                 literals = tablesIn s .literals;
                 nulls = tablesIn s .nulls;
                 values = tablesIn s .values;
-                composites = ((λ j. map compositeRow cs ++ row (e j) (len j) id ∷ []) ∙ map-snoc compositeRow cs (c, id)) i;
+                composites = ((λ j. map compositeRow cs ++ tableRow (e j) (len j) id ∷ []) ∙ map-snoc compositeRow cs (c, id)) i;
                 parts = (ap (λ (l : List ℕ). allParts cs ++ l) f ∙ parts-snoc cs c id) i;
               });
           small = record { keys = h .small .keys; composed = all-snoc (λ (x : Composite). Small (keyOfC x)) cs c id sm (h .small .composed); kinds = h .small .kinds };
@@ -174,12 +174,12 @@ module _ (w : Writer) (T : List ℕ) where
         record {
           last = h .last;
           tables = values-row w T id ty kind room
-              ∙ ap (λ (t : Tables). record { types = t .types; literals = t .literals; nulls = t .nulls; values = t .values ++ row id ty kind ∷ []; composites = t .composites; parts = t .parts }) (h .tables)
+              ∙ ap (λ (t : Tables). record { types = t .types; literals = t .literals; nulls = t .nulls; values = t .values ++ tableRow id ty kind ∷ []; composites = t .composites; parts = t .parts }) (h .tables)
               ∙ (λ i. record {
                 types = tablesIn s .types;
                 literals = tablesIn s .literals;
                 nulls = tablesIn s .nulls;
-                values = (ap (λ (n : ℕ). map valueRow vs ++ row id ty n ∷ []) e ∙ map-snoc valueRow vs v) i;
+                values = (ap (λ (n : ℕ). map valueRow vs ++ tableRow id ty n ∷ []) e ∙ map-snoc valueRow vs v) i;
                 composites = tablesIn s .composites;
                 parts = tablesIn s .parts;
               });
@@ -196,8 +196,8 @@ module _ (w : Writer) (T : List ℕ) where
     held = λ k sm e S s h. record {
       last = h .last;
       tables = types-row w T key id room
-          ∙ ap (λ (t : Tables). record { types = t .types ++ row key 0 id ∷ []; literals = t .literals; nulls = t .nulls; values = t .values; composites = t .composites; parts = t .parts }) (h .tables)
-          ∙ (λ i. record { types = (ap (λ (n : ℕ). map keyRow (s .types) ++ row n 0 id ∷ []) e ∙ map-snoc keyRow (s .types) (k, id)) i; literals = tablesIn s .literals; nulls = tablesIn s .nulls; values = tablesIn s .values; composites = tablesIn s .composites; parts = tablesIn s .parts });
+          ∙ ap (λ (t : Tables). record { types = t .types ++ tableRow key 0 id ∷ []; literals = t .literals; nulls = t .nulls; values = t .values; composites = t .composites; parts = t .parts }) (h .tables)
+          ∙ (λ i. record { types = (ap (λ (n : ℕ). map keyRow (s .types) ++ tableRow n 0 id ∷ []) e ∙ map-snoc keyRow (s .types) (k, id)) i; literals = tablesIn s .literals; nulls = tablesIn s .nulls; values = tablesIn s .values; composites = tablesIn s .composites; parts = tablesIn s .parts });
       small = record { keys = all-snoc Small (s .types) k id sm (h .small .keys); composed = h .small .composed; kinds = h .small .kinds };
       sections = h .sections;
     };
@@ -210,8 +210,8 @@ module _ (w : Writer) (T : List ℕ) where
     held = λ l e f S s h. record {
       last = h .last;
       tables = literals-row w T form bits id room
-          ∙ ap (λ (t : Tables). record { types = t .types; literals = t .literals ++ row form bits id ∷ []; nulls = t .nulls; values = t .values; composites = t .composites; parts = t .parts }) (h .tables)
-          ∙ (λ i. record { types = tablesIn s .types; literals = ((λ j. map literalRow (s .constants .literals) ++ row (e j) (f j) id ∷ []) ∙ map-snoc literalRow (s .constants .literals) (l, id)) i; nulls = tablesIn s .nulls; values = tablesIn s .values; composites = tablesIn s .composites; parts = tablesIn s .parts });
+          ∙ ap (λ (t : Tables). record { types = t .types; literals = t .literals ++ tableRow form bits id ∷ []; nulls = t .nulls; values = t .values; composites = t .composites; parts = t .parts }) (h .tables)
+          ∙ (λ i. record { types = tablesIn s .types; literals = ((λ j. map literalRow (s .constants .literals) ++ tableRow (e j) (f j) id ∷ []) ∙ map-snoc literalRow (s .constants .literals) (l, id)) i; nulls = tablesIn s .nulls; values = tablesIn s .values; composites = tablesIn s .composites; parts = tablesIn s .parts });
       small = h .small;
       sections = h .sections;
     };
@@ -224,7 +224,7 @@ module _ (w : Writer) (T : List ℕ) where
     held = λ S s h. record {
       last = h .last;
       tables = nulls-row w T t id room
-          ∙ ap (λ (u : Tables). record { types = u .types; literals = u .literals; nulls = u .nulls ++ row t 0 id ∷ []; values = u .values; composites = u .composites; parts = u .parts }) (h .tables)
+          ∙ ap (λ (u : Tables). record { types = u .types; literals = u .literals; nulls = u .nulls ++ tableRow t 0 id ∷ []; values = u .values; composites = u .composites; parts = u .parts }) (h .tables)
           ∙ (λ i. record { types = tablesIn s .types; literals = tablesIn s .literals; nulls = map-snoc nullRow (s .constants .nulls) (t, id) i; values = tablesIn s .values; composites = tablesIn s .composites; parts = tablesIn s .parts });
       small = h .small;
       sections = h .sections;

@@ -9,37 +9,37 @@ use borrow.Author.Tests.{lt-ltb, le-ltb}
 use Rattle.definition.specs.State.{Valued}
 use Rattle.definition.specs.Rules.{noValue}
 use Rattle.writer.specs.declared.Writer.{Writer}
-use Rattle.writer.specs.declared.Value.{Value}
-use Rattle.writer.specs.Rows.{Row, row, triple, rows}
+use Rattle.writer.specs.declared.WrittenConstant.{WrittenConstant}
+use Rattle.writer.specs.Rows.{TableRow, tableRow, triple, tableRows}
 use Rattle.writer.specs.Regions.{valuesAt}
 use Rattle.writer.specs.Held.{Tables, valueRow, AllKinds}
 use Rattle.writer.specs.Steps.{IsValue, ValueAt}
 
-no-row : Row
-no-row = row 0 0 0
+no-row : TableRow
+no-row = tableRow 0 0 0
 
-abbrev pub valueIn : List ℕ → ℕ → Value
+abbrev pub valueIn : List ℕ → ℕ → WrittenConstant
 valueIn T p = record { id = getD T p 0; ty = getD T (p + 1) 0; kind = getD T (p + 2) 0 }
 
-abbrev pub nothing : Value
+abbrev pub nothing : WrittenConstant
 nothing = record { id = 0; ty = 0; kind = 0 }
 
-there : (T : List ℕ) (b n : ℕ) (vs : List Valued) → rows triple T b n ≡ map valueRow vs → AllKinds vs → (c p : ℕ) → c < n → p ≡ b + 3 * c → IsValue (valueIn T p) (getD vs c noValue)
-unfolding rows
+there : (T : List ℕ) (b n : ℕ) (vs : List Valued) → tableRows triple T b n ≡ map valueRow vs → AllKinds vs → (c p : ℕ) → c < n → p ≡ b + 3 * c → IsValue (valueIn T p) (getD vs c noValue)
+unfolding tableRows
 there T b zero vs e k c p h q = absurd (not-suc-le-zero h)
 there T b (suc n) [] e k c p h q = let z : _≡_ {A = ℕ} 0 1 = cc in absurd (omega arith)
 there T b (suc n) (v ∷ vs) e k zero p h q =
     let y : p ≡ b = omega arith in
     record {
-      id = ap (λ (j : ℕ). getD T j 0) y ∙ ap (λ (r : List Row). getD r 0 no-row .first) e;
-      type = ap (λ (j : ℕ). getD T (j + 1) 0) y ∙ ap (λ (r : List Row). getD r 0 no-row .second) e;
-      kind = ap (λ (j : ℕ). getD T (j + 2) 0) y ∙ ap (λ (r : List Row). getD r 0 no-row .id) e;
+      id = ap (λ (j : ℕ). getD T j 0) y ∙ ap (λ (r : List TableRow). getD r 0 no-row .first) e;
+      type = ap (λ (j : ℕ). getD T (j + 1) 0) y ∙ ap (λ (r : List TableRow). getD r 0 no-row .second) e;
+      kind = ap (λ (j : ℕ). getD T (j + 2) 0) y ∙ ap (λ (r : List TableRow). getD r 0 no-row .id) e;
       small = k .0;
     }
 there T b (suc n) (v ∷ vs) e k (suc c) p h q = there T (b + 3) n vs (ap (drop 1) e) (k .1) c p (omega arith) (omega arith)
 
-past : (T : List ℕ) (b n : ℕ) (vs : List Valued) → rows triple T b n ≡ map valueRow vs → (c : ℕ) → n ≤ c → noValue ≡ getD vs c noValue
-unfolding rows
+past : (T : List ℕ) (b n : ℕ) (vs : List Valued) → tableRows triple T b n ≡ map valueRow vs → (c : ℕ) → n ≤ c → noValue ≡ getD vs c noValue
+unfolding tableRows
 past T b zero [] e c h = refl
 past T b zero (v ∷ vs) e c h = let z : _≡_ {A = ℕ} 0 1 = cc in absurd (omega arith)
 past T b (suc n) [] e c h = refl

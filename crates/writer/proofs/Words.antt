@@ -21,7 +21,7 @@ use Rattle.writer.specs.declared.Writer.{Writer}
 use Rattle.spirv.specs.Ids.{low}
 use Rattle.writer.specs.Rows.{part, isListed}
 use Rattle.writer.specs.Regions.{sectionAt, Section, names, annotations, declarations, used, more, addTo}
-use Rattle.writer.specs.Cost.{capabilitiesOf, declaring, wordsIn}
+use Rattle.writer.specs.Cost.{listingCost, declaring, sectionWords}
 use Rattle.writer.specs.Held.{Sections, tablesOf, sectionsOf, sectionsIn, wordsOf, Held, RoomFor}
 use Rattle.writer.specs.Steps.{Spelt, Adds, Puts as PutsOne, Listed, withCapabilities, CountListed, Pending, Committed}
 use Rattle.writer.proofs.Regions.{part-left, part-right, part-more, splice-splice}
@@ -67,12 +67,12 @@ module _ (w : Writer) (S ws : List ℕ) (n : ℕ) (few : length ws ≤ n) where
   abbrev from : Section → ℕ
   from b = sectionAt b w + used b w
 
-  pub in-list : (b : Section) → RoomFor (wordsIn b n) w S → from b + length ws ≤ length S
+  pub in-list : (b : Section) → RoomFor (sectionWords b n) w S → from b + length ws ≤ length S
   in-list names room = omega arith
   in-list annotations room = omega arith
   in-list declarations room = omega arith
 
-  appended : (b : Section) → RoomFor (wordsIn b n) w S → sectionsOf (more b w (length ws)) (splice S (from b) ws) ≡ append b ws (sectionsOf w S)
+  appended : (b : Section) → RoomFor (sectionWords b n) w S → sectionsOf (more b w (length ws)) (splice S (from b) ws) ≡ append b ws (sectionsOf w S)
   appended names room = λ i. record {
     capabilities = part-left S (from names) ws (in-list names room) 0 (w .capabilities) (omega arith) i;
     names = part-more S (sectionAt names w) (w .names) (from names) ws refl (in-list names room) i;
@@ -92,13 +92,13 @@ module _ (w : Writer) (S ws : List ℕ) (n : ℕ) (few : length ws ≤ n) where
     declarations = part-more S (sectionAt declarations w) (w .declarations) (from declarations) ws refl (in-list declarations room) i;
   }
 
-  pub adds : (b : Section) → RoomFor (wordsIn b n) w S → Adds b n ws w S (more b w (length ws)) (splice S (from b) ws)
+  pub adds : (b : Section) → RoomFor (sectionWords b n) w S → Adds b n ws w S (more b w (length ws)) (splice S (from b) ws)
   adds names room = record { grown = omega arith; held = add-held names w (more names w (length ws)) S (splice S (from names) ws) ws refl (λ T. refl) (appended names room) }
   adds annotations room = record { grown = omega arith; held = add-held annotations w (more annotations w (length ws)) S (splice S (from annotations) ws) ws refl (λ T. refl) (appended annotations room) }
   adds declarations room = record { grown = omega arith; held = add-held declarations w (more declarations w (length ws)) S (splice S (from declarations) ws) ws refl (λ T. refl) (appended declarations room) }
 
   -- what a writer put into the part that it was lent
-  module _ (b : Section) (z : List ℕ) (m : ℕ) (room : RoomFor (wordsIn b n) w S) (put : Put ws (Puts.part S (sectionAt b w + used b w)) z m) where
+  module _ (b : Section) (z : List ℕ) (m : ℕ) (room : RoomFor (sectionWords b n) w S) (put : Put ws (Puts.part S (sectionAt b w + used b w)) z m) where
     pub adds-count : m ≡ length ws
     adds-count = Puts.lent-count S (from b) ws z m put (in-list b room)
 
@@ -184,7 +184,7 @@ module _ (w : Writer) (S : List ℕ) (c : ℕ) where
           };
     })
 
-    lists-new : isListed c (part S 0 (w .capabilities)) ≡ false → RoomFor (capabilitiesOf 1) w S → Listed (asList c) w S (withCapabilities w (w .capabilities + 1)) (splice S (w .capabilities) (c ∷ []))
+    lists-new : isListed c (part S 0 (w .capabilities)) ≡ false → RoomFor (listingCost 1) w S → Listed (asList c) w S (withCapabilities w (w .capabilities + 1)) (splice S (w .capabilities) (c ∷ []))
     unfolding listed
     lists-new e room = rw one (record {
       grown = omega arith;

@@ -16,8 +16,8 @@ pub record Cost : Type 0 where
   pub declarations : ℕ
   pub ids : ℕ
 
-abbrev pub nothing : Cost
-nothing = record { types = 0; literals = 0; nulls = 0; values = 0; composites = 0; parts = 0; capabilities = 0; names = 0; annotations = 0; declarations = 0; ids = 0 }
+abbrev pub noCost : Cost
+noCost = record { types = 0; literals = 0; nulls = 0; values = 0; composites = 0; parts = 0; capabilities = 0; names = 0; annotations = 0; declarations = 0; ids = 0 }
 
 -- one after the other
 infixl 6 _⊕_
@@ -60,8 +60,8 @@ aComposite n = record { types = 0; literals = 0; nulls = 0; values = 0; composit
 abbrev pub staging : ℕ → Cost
 staging n = record { types = 0; literals = 0; nulls = 0; values = 0; composites = 0; parts = n; capabilities = 0; names = 0; annotations = 0; declarations = 0; ids = 0 }
 
-abbrev pub capabilitiesOf : ℕ → Cost
-capabilitiesOf n = record { types = 0; literals = 0; nulls = 0; values = 0; composites = 0; parts = 0; capabilities = n; names = 0; annotations = 0; declarations = 0; ids = 0 }
+abbrev pub listingCost : ℕ → Cost
+listingCost n = record { types = 0; literals = 0; nulls = 0; values = 0; composites = 0; parts = 0; capabilities = n; names = 0; annotations = 0; declarations = 0; ids = 0 }
 
 -- words of a section
 abbrev pub naming : ℕ → Cost
@@ -73,10 +73,10 @@ annotating n = record { types = 0; literals = 0; nulls = 0; values = 0; composit
 abbrev pub declaring : ℕ → Cost
 declaring n = record { types = 0; literals = 0; nulls = 0; values = 0; composites = 0; parts = 0; capabilities = 0; names = 0; annotations = 0; declarations = n; ids = 0 }
 
-abbrev pub wordsIn : Section → ℕ → Cost
-wordsIn names = naming
-wordsIn annotations = annotating
-wordsIn declarations = declaring
+abbrev pub sectionWords : Section → ℕ → Cost
+sectionWords names = naming
+sectionWords annotations = annotating
+sectionWords declarations = declaring
 
 -- ---- a record of n bytes, whatever it is
 

@@ -8,22 +8,22 @@ use Rattle.definition.specs.Literals.{Literal}
 use Rattle.definition.specs.Instructions.{Instruction, allWords}
 use Rattle.definition.specs.Shapes.{Kind, Key}
 use Rattle.definition.specs.State.{State, Composite, composite, Valued}
-use Rattle.literals.specs.Forms.{formOf, bitsOf}
-use Rattle.lookup.specs.Packed.{packed, code, Small}
+use Rattle.literals.specs.Forms.{literalForm, bitsOf}
+use Rattle.lookup.specs.Packed.{packedKey, code, Small}
 use Rattle.writer.specs.declared.Writer.{Writer}
 use Rattle.spirv.specs.Ids.{low}
-use Rattle.writer.specs.Rows.{Row, row, pair, triple, rows, part}
+use Rattle.writer.specs.Rows.{TableRow, tableRow, pair, triple, tableRows, part}
 use Rattle.writer.specs.Regions.{literalsAt, nullsAt, valuesAt, compositesAt, partsAt, sectionAt, names, annotations, declarations}
 use Rattle.writer.specs.Cost.{Cost}
 
 -- ---- the regions' contents
 
 pub record Tables : Type 0 where
-  pub types : List Row
-  pub literals : List Row
-  pub nulls : List Row
-  pub values : List Row
-  pub composites : List Row
+  pub types : List TableRow
+  pub literals : List TableRow
+  pub nulls : List TableRow
+  pub values : List TableRow
+  pub composites : List TableRow
   pub parts : List ℕ
 
 pub record Sections : Type 0 where
@@ -35,11 +35,11 @@ pub record Sections : Type 0 where
 -- as they lie in the two lists
 abbrev pub tablesOf : Writer → List ℕ → Tables
 tablesOf w T = record {
-  types = rows pair T 0 (w .types);
-  literals = rows triple T (literalsAt w) (w .literals);
-  nulls = rows pair T (nullsAt w) (w .nulls);
-  values = rows triple T (valuesAt w) (w .values);
-  composites = rows triple T (compositesAt w) (w .composites);
+  types = tableRows pair T 0 (w .types);
+  literals = tableRows triple T (literalsAt w) (w .literals);
+  nulls = tableRows pair T (nullsAt w) (w .nulls);
+  values = tableRows triple T (valuesAt w) (w .values);
+  composites = tableRows triple T (compositesAt w) (w .composites);
   parts = part T (partsAt w) (w .parts);
 }
 
@@ -53,21 +53,21 @@ sectionsOf w S = record {
 
 -- as the state has them
 
-abbrev pub keyRow : Key × ℕ → Row
-keyRow x = row (packed (x .0)) 0 (x .1)
+abbrev pub keyRow : Key × ℕ → TableRow
+keyRow x = tableRow (packedKey (x .0)) 0 (x .1)
 
-abbrev pub literalRow : Literal × ℕ → Row
-literalRow x = row (formOf (x .0)) (bitsOf (x .0)) (x .1)
+abbrev pub literalRow : Literal × ℕ → TableRow
+literalRow x = tableRow (literalForm (x .0)) (bitsOf (x .0)) (x .1)
 
-abbrev pub nullRow : ℕ × ℕ → Row
-nullRow x = row (x .0) 0 (x .1)
+abbrev pub nullRow : ℕ × ℕ → TableRow
+nullRow x = tableRow (x .0) 0 (x .1)
 
 abbrev pub kindCode : Option Kind → ℕ
 kindCode none = 0
 kindCode (some k) = 1 + code k
 
-abbrev pub valueRow : Valued → Row
-valueRow v = row (v .id) (v .type) (kindCode (v .kind))
+abbrev pub valueRow : Valued → TableRow
+valueRow v = tableRow (v .id) (v .type) (kindCode (v .kind))
 
 abbrev pub keyOfC : Composite → Key
 keyOfC (composite k ps) = k
@@ -76,8 +76,8 @@ abbrev pub partsOfC : Composite → List ℕ
 partsOfC (composite k ps) = ps
 
 -- a composite's parts stand apart, one composite's behind the other's
-abbrev pub compositeRow : Composite × ℕ → Row
-compositeRow x = row (packed (keyOfC (x .0))) (length (partsOfC (x .0))) (x .1)
+abbrev pub compositeRow : Composite × ℕ → TableRow
+compositeRow x = tableRow (packedKey (keyOfC (x .0))) (length (partsOfC (x .0))) (x .1)
 
 unfoldable pub allParts : List (Composite × ℕ) → List ℕ
 allParts [] = []

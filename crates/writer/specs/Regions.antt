@@ -1,7 +1,7 @@
 -- Where each table and each section starts in its list, and the section that an instruction goes to.
 use Prim.Native.Nat.{ℕ, _+_, _*_}
 use Rattle.definition.specs.Instructions.{Instruction}
-use Rattle.definition.specs.State.{State, label, annotate, declare}
+use Rattle.definition.specs.State.{State, label, annotate, declareAlone}
 use Rattle.writer.specs.declared.Writer.{Writer}
 
 -- the tables: four types to a record, one row of each other table, and a part to a byte; types and nulls are in rows of two
@@ -48,4 +48,4 @@ more declarations w n = record { records = w .records; bytes = w .bytes; idgen =
 abbrev pub addTo : Section → Instruction → State → State
 addTo names = label
 addTo annotations = annotate
-addTo declarations = declare
+addTo declarations = declareAlone

@@ -10,13 +10,13 @@ use Rattle.writer.specs.declared.Sought.{Sought}
 use Rattle.writer.specs.declared.Sought.the-variants.{Id, Absent}
 
 -- a row of a table: a key in two numbers, and an id
-pub record Row : Type 0 where
+pub record TableRow : Type 0 where
   pub first : ℕ
   pub second : ℕ
   pub id : ℕ
 
-abbrev pub row : ℕ → ℕ → ℕ → Row
-row a b i = record { first = a; second = b; id = i }
+abbrev pub tableRow : ℕ → ℕ → ℕ → TableRow
+tableRow a b i = record { first = a; second = b; id = i }
 
 -- how a table keeps its rows: all three numbers, or, where every key is one number, that and the id
 pub data RowKind : Type 0 where
@@ -28,21 +28,21 @@ rowLength pair = 2
 rowLength triple = 3
 
 -- the row at a place; where it is a pair, the key's second number is 0
-abbrev pub rowAt : RowKind → List ℕ → ℕ → Row
-rowAt pair T p = row (getD T p 0) 0 (getD T (p + 1) 0)
-rowAt triple T p = row (getD T p 0) (getD T (p + 1) 0) (getD T (p + 2) 0)
+abbrev pub rowAt : RowKind → List ℕ → ℕ → TableRow
+rowAt pair T p = tableRow (getD T p 0) 0 (getD T (p + 1) 0)
+rowAt triple T p = tableRow (getD T p 0) (getD T (p + 1) 0) (getD T (p + 2) 0)
 
 -- the n rows from a place on
-unfoldable pub rows : RowKind → List ℕ → ℕ → ℕ → List Row
-rows k T p zero = []
-rows k T p (suc n) = rowAt k T p ∷ rows k T (p + rowLength k) n
+unfoldable pub tableRows : RowKind → List ℕ → ℕ → ℕ → List TableRow
+tableRows k T p zero = []
+tableRows k T p (suc n) = rowAt k T p ∷ tableRows k T (p + rowLength k) n
 
 -- the n words from a place on
 abbrev pub part : List ℕ → ℕ → ℕ → List ℕ
 part S at n = take n (drop at S)
 
 -- the id of the first row under a key
-unfoldable pub seekIn : ℕ → ℕ → List Row → Option ℕ
+unfoldable pub seekIn : ℕ → ℕ → List TableRow → Option ℕ
 seekIn a b [] = none
 seekIn a b (r ∷ rs) = pick (eqb (r .first) a && eqb (r .second) b) (some (r .id)) (seekIn a b rs)
 

@@ -10,19 +10,19 @@ use Rattle.definition.specs.Choice.{pick}
 use Rattle.definition.specs.Literals.{Literal, sameLiteral}
 use Rattle.definition.specs.Instructions.{Instruction, words}
 use Rattle.definition.specs.Shapes.{Kind, Key, sameKey}
-use Rattle.definition.specs.State.{State, Composite, composite, sameComposite, Valued, Got, takeId, enter, declare, withConstants, listed, lookup}
+use Rattle.definition.specs.State.{State, Composite, composite, sameComposite, Valued, Got, takeId, enter, declareAlone, withConstants, listed, lookup}
 use Rattle.definition.specs.Finding.{enterLiteral, enterComposite, enterNull}
 use Rattle.definition.specs.Rules.{valueAt, enterValue}
-use Rattle.literals.specs.Forms.{formOf, bitsOf}
-use Rattle.lookup.specs.Packed.{packed, Small}
+use Rattle.literals.specs.Forms.{literalForm, bitsOf}
+use Rattle.lookup.specs.Packed.{packedKey, Small}
 use Rattle.writer.specs.declared.Writer.{Writer}
 use Rattle.writer.specs.declared.Taken.{Taken}
-use Rattle.writer.specs.declared.Value.{Value}
+use Rattle.writer.specs.declared.WrittenConstant.{WrittenConstant}
 use Rattle.writer.specs.declared.Sought.{Sought}
 use Rattle.spirv.specs.Ids.{low}
 use Rattle.writer.specs.Rows.{part, soughtOf}
 use Rattle.writer.specs.Regions.{valuesAt, partsAt, sectionAt, Section, declarations, addTo}
-use Rattle.writer.specs.Cost.{Cost, anId, aType, aLiteral, aNull, aValue, aComposite, capabilitiesOf, declaring, wordsIn}
+use Rattle.writer.specs.Cost.{Cost, anId, aType, aLiteral, aNull, aValue, aComposite, listingCost, declaring, sectionWords}
 use Rattle.writer.specs.Held.{kindCode, SmallKind, Held, RoomFor, Grown}
 
 -- nothing is in use
@@ -68,17 +68,17 @@ pub record Took (w : Writer) (r : Taken) : Type 0 where
 -- ---- searches: each is the definition's lookup
 
 abbrev pub FindsType : ℕ → Writer → List ℕ → Sought → Type 0
-FindsType key w T r = (k : Key) → Small k → key ≡ packed k → (S : List ℕ) (s : State) → Held w T S s → soughtOf r ≡ lookup sameKey k (s .types)
+FindsType key w T r = (k : Key) → Small k → key ≡ packedKey k → (S : List ℕ) (s : State) → Held w T S s → soughtOf r ≡ lookup sameKey k (s .types)
 
 abbrev pub FindsLiteral : ℕ → ℕ → Writer → List ℕ → Sought → Type 0
-FindsLiteral form bits w T r = (l : Literal) → form ≡ formOf l → bits ≡ bitsOf l → (S : List ℕ) (s : State) → Held w T S s → soughtOf r ≡ lookup sameLiteral l (s .constants .literals)
+FindsLiteral form bits w T r = (l : Literal) → form ≡ literalForm l → bits ≡ bitsOf l → (S : List ℕ) (s : State) → Held w T S s → soughtOf r ≡ lookup sameLiteral l (s .constants .literals)
 
 abbrev pub FindsNull : ℕ → Writer → List ℕ → Sought → Type 0
 FindsNull t w T r = (S : List ℕ) (s : State) → Held w T S s → soughtOf r ≡ lookup ℕ-discrete t (s .constants .nulls)
 
 -- its parts are the n that stand behind those in use
 abbrev pub FindsComposite : ℕ → ℕ → Writer → List ℕ → Sought → Type 0
-FindsComposite key n w T r = (k : Key) → Small k → key ≡ packed k → (S : List ℕ) (s : State) → Held w T S s
+FindsComposite key n w T r = (k : Key) → Small k → key ≡ packedKey k → (S : List ℕ) (s : State) → Held w T S s
     → soughtOf r ≡ lookup sameComposite (composite k (part T (partsAt w + w .parts) n)) (s .constants .composites)
 
 -- ---- entries; each operation has only the list that it writes, and what is held stays held whatever the other is
@@ -86,7 +86,7 @@ FindsComposite key n w T r = (k : Key) → Small k → key ≡ packed k → (S :
 pub record EnteredType (key id : ℕ) (w : Writer) (T : List ℕ) (v : Writer) (T′ : List ℕ) : Type 0 where
   pub grown : Grown aType w v
   pub tail : Tail w T v T′
-  pub held : (k : Key) → Small k → key ≡ packed k → (S : List ℕ) (s : State) → Held w T S s → Held v T′ S (enter k id s)
+  pub held : (k : Key) → Small k → key ≡ packedKey k → (S : List ℕ) (s : State) → Held w T S s → Held v T′ S (enter k id s)
 
 abbrev pub noteLiteral : Literal → ℕ → State → State
 noteLiteral l id s = withConstants (enterLiteral l id (s .constants)) s
@@ -94,7 +94,7 @@ noteLiteral l id s = withConstants (enterLiteral l id (s .constants)) s
 pub record EnteredLiteral (form bits id : ℕ) (w : Writer) (T : List ℕ) (v : Writer) (T′ : List ℕ) : Type 0 where
   pub grown : Grown aLiteral w v
   pub tail : Tail w T v T′
-  pub held : (l : Literal) → form ≡ formOf l → bits ≡ bitsOf l → (S : List ℕ) (s : State) → Held w T S s → Held v T′ S (noteLiteral l id s)
+  pub held : (l : Literal) → form ≡ literalForm l → bits ≡ bitsOf l → (S : List ℕ) (s : State) → Held w T S s → Held v T′ S (noteLiteral l id s)
 
 abbrev pub noteNull : ℕ → ℕ → State → State
 noteNull t id s = withConstants (enterNull t id (s .constants)) s
@@ -110,7 +110,7 @@ noteComposite c id s = withConstants (enterComposite c id (s .constants)) s
 -- the n parts that stand behind those in use are its parts
 pub record EnteredComposite (key n id : ℕ) (w : Writer) (T : List ℕ) (v : Writer) (T′ : List ℕ) : Type 0 where
   pub grown : Grown (aComposite n) w v
-  pub held : (k : Key) → Small k → key ≡ packed k → (xs : List ℕ) → part T (partsAt w + w .parts) n ≡ xs
+  pub held : (k : Key) → Small k → key ≡ packedKey k → (xs : List ℕ) → part T (partsAt w + w .parts) n ≡ xs
       → (S : List ℕ) (s : State) → Held w T S s → Held v T′ S (noteComposite (composite k xs) id s)
 
 pub record EnteredValue (id type kind : ℕ) (w : Writer) (T : List ℕ) (v : Writer) (T′ : List ℕ) : Type 0 where
@@ -124,13 +124,13 @@ pub record EnteredValue (id type kind : ℕ) (w : Writer) (T : List ℕ) (v : Wr
 abbrev pub idIn : Writer → List ℕ → ℕ → ℕ
 idIn w T c = pick (ltb c (w .values)) (getD T (valuesAt w + 3 * c) 0) 0
 
-pub record IsValue (r : Value) (v : Valued) : Type 0 where
+pub record IsValue (r : WrittenConstant) (v : Valued) : Type 0 where
   pub id : r .id ≡ v .id
   pub type : r .ty ≡ v .type
   pub kind : r .kind ≡ kindCode (v .kind)
   pub small : SmallKind (v .kind)
 
-pub record ValueAt (c : ℕ) (w : Writer) (T : List ℕ) (r : Value) : Type 0 where
+pub record ValueAt (c : ℕ) (w : Writer) (T : List ℕ) (r : WrittenConstant) : Type 0 where
   pub named : r .id ≡ idIn w T c
   pub held : (S : List ℕ) (s : State) → Held w T S s → IsValue r (valueAt s c)
 
@@ -142,12 +142,12 @@ Spelt i ws = map low (words i) ≡ ws
 
 -- at most n words are added to a section: they are an instruction
 pub record Adds (b : Section) (n : ℕ) (ws : List ℕ) (w : Writer) (S : List ℕ) (v : Writer) (S′ : List ℕ) : Type 0 where
-  pub grown : Grown (wordsIn b n) w v
+  pub grown : Grown (sectionWords b n) w v
   pub held : (i : Instruction) → Spelt i ws → (T : List ℕ) (s : State) → Held w T S s → Held v T S′ (addTo b i s)
 
 -- the same of one instruction
 pub record Puts (b : Section) (n : ℕ) (i : Instruction) (w : Writer) (S : List ℕ) (v : Writer) (S′ : List ℕ) : Type 0 where
-  pub grown : Grown (wordsIn b n) w v
+  pub grown : Grown (sectionWords b n) w v
   pub held : (T : List ℕ) (s : State) → Held w T S s → Held v T S′ (addTo b i s)
 
 -- a change of the state that touches the sections alone: what is held stays held whatever the tables are
@@ -163,7 +163,7 @@ pub record Pending (k : ℕ) (xs : List ℕ) (w : Writer) (S S′ : List ℕ) : 
 -- the n words pending are an instruction
 pub record Committed (n : ℕ) (w v : Writer) : Type 0 where
   pub grown : Grown (declaring n) w v
-  pub held : (T S : List ℕ) (s : State) (i : Instruction) → Spelt i (part S (sectionAt declarations w + w .declarations) n) → Held w T S s → Held v T S (declare i s)
+  pub held : (T S : List ℕ) (s : State) (i : Instruction) → Spelt i (part S (sectionAt declarations w + w .declarations) n) → Held w T S s → Held v T S (declareAlone i s)
 
 -- ---- capabilities, each at its first use
 
@@ -171,7 +171,7 @@ abbrev pub listing : List ℕ → State → State
 listing cs s = record { last = s .last; types = s .types; constants = s .constants; capabilities = listed cs (s .capabilities); names = s .names; annotations = s .annotations; declarations = s .declarations }
 
 pub record Listed (cs : List ℕ) (w : Writer) (S : List ℕ) (v : Writer) (S′ : List ℕ) : Type 0 where
-  pub grown : Grown (capabilitiesOf 1) w v
+  pub grown : Grown (listingCost 1) w v
   pub held : (T : List ℕ) (s : State) → Held w T S s → Held v T S′ (listing cs s)
 
 -- m capabilities in use
@@ -181,4 +181,4 @@ withCapabilities w m = record { records = w .records; bytes = w .bytes; idgen = 
 -- the same by their count alone: there were n, and there are m then
 pub record CountListed (cs : List ℕ) (n : ℕ) (S : List ℕ) (m : ℕ) (S′ : List ℕ) : Type 0 where
   pub few : m ≤ n + 1
-  pub lists : (w : Writer) → w .capabilities ≡ n → RoomFor (capabilitiesOf 1) w S → Listed cs w S (withCapabilities w m) S′
+  pub lists : (w : Writer) → w .capabilities ≡ n → RoomFor (listingCost 1) w S → Listed cs w S (withCapabilities w m) S′

@@ -14,9 +14,9 @@ ghost use Rattle.definition.specs.State.{empty};
 ghost use Rattle.definition.specs.Instructions.{constantComposite, name, memberName};
 ghost use Rattle.spirv.specs.Sections.{splice};
 ghost use Rattle.lookup.specs.Local.{asList};
-ghost use Rattle.writer.specs.Rows.{pair, triple, rows, seekIn, sameList, seekParts, soughtOf, part, isListed};
+ghost use Rattle.writer.specs.Rows.{pair, triple, tableRows, seekIn, sameList, seekParts, soughtOf, part, isListed};
 ghost use Rattle.writer.specs.Regions.{partsAt, names, annotations, declarations};
-ghost use Rattle.writer.specs.Cost.{nothing, aType, aLiteral, aNull, aValue, aComposite, staging, naming, annotating, declaring};
+ghost use Rattle.writer.specs.Cost.{noCost, aType, aLiteral, aNull, aValue, aComposite, staging, naming, annotating, declaring};
 ghost use Rattle.writer.specs.Held.{Held, RoomIn, RoomFor};
 ghost use Rattle.writer.specs.Steps.{fresh, Took, FindsType, FindsLiteral, FindsNull, FindsComposite, EnteredType, EnteredLiteral, EnteredNull, EnteredComposite, EnteredValue, ValueAt, Puts, CountListed, Pending, Committed};
 
@@ -64,7 +64,7 @@ pub struct Taken {
 }
 
 // A constant of the sheet: its id, its type's id, and the code of its kind where a Splat may repeat it, plus 1; 0 where not.
-pub struct Value {
+pub struct WrittenConstant {
     pub id: u64,
     pub ty: u64,
     pub kind: u64,
@@ -116,7 +116,7 @@ pub fn take_id(mut w: Writer) -> Taken
 // The id of the first of n rows under a key of one number.
 fn seek_key(tables: &[u64], start: usize, n: usize, a: u64) -> Sought
     requires { ⌜ start + 2 * n ≤ length (now tables) ⌝ }
-    ensures { λ r. ⌜ soughtOf r ≡ seekIn a 0 (rows pair (now (tables .entry)) start n) ⌝ }
+    ensures { λ r. ⌜ soughtOf r ≡ seekIn a 0 (tableRows pair (now (tables .entry)) start n) ⌝ }
 {
     let mut p = start;
     let mut left = n;
@@ -149,7 +149,7 @@ fn seek_key(tables: &[u64], start: usize, n: usize, a: u64) -> Sought
 // The same of a key of two numbers; the second first, in which rows mostly differ.
 fn seek(tables: &[u64], start: usize, n: usize, a: u64, b: u64) -> Sought
     requires { ⌜ start + 3 * n ≤ length (now tables) ⌝ }
-    ensures { λ r. ⌜ soughtOf r ≡ seekIn a b (rows triple (now (tables .entry)) start n) ⌝ }
+    ensures { λ r. ⌜ soughtOf r ≡ seekIn a b (tableRows triple (now (tables .entry)) start n) ⌝ }
 {
     let mut p = start;
     let mut left = n;
@@ -190,21 +190,21 @@ fn seek(tables: &[u64], start: usize, n: usize, a: u64, b: u64) -> Sought
 }
 
 pub fn find_type(tables: &[u64], w: Writer, key: u64) -> Sought
-    requires { ⌜ RoomIn nothing w (now tables) ⌝ }
+    requires { ⌜ RoomIn noCost w (now tables) ⌝ }
     ensures { λ r. ⌜ FindsType key w (now (tables .entry)) r ⌝ }
 {
     seek_key(tables, 0, w.types, key)
 }
 
 pub fn find_literal(tables: &[u64], w: Writer, form: u64, bits: u64) -> Sought
-    requires { ⌜ RoomIn nothing w (now tables) ⌝ }
+    requires { ⌜ RoomIn noCost w (now tables) ⌝ }
     ensures { λ r. ⌜ FindsLiteral form bits w (now (tables .entry)) r ⌝ }
 {
     seek(tables, LITERALS * w.records, w.literals, form, bits)
 }
 
 pub fn find_null(tables: &[u64], w: Writer, ty: u64) -> Sought
-    requires { ⌜ RoomIn nothing w (now tables) ⌝ }
+    requires { ⌜ RoomIn noCost w (now tables) ⌝ }
     ensures { λ r. ⌜ FindsNull ty w (now (tables .entry)) r ⌝ }
 {
     seek_key(tables, NULLS * w.records, w.nulls, ty)
@@ -364,19 +364,19 @@ pub fn enter_value(tables: &mut [u64], mut w: Writer, id: u64, ty: u64, kind: u6
 }
 
 // Constant c of the sheet; past the end it reads as none.
-pub fn value_at(tables: &[u64], w: Writer, c: usize) -> Value
-    requires { ⌜ RoomIn nothing w (now tables) ⌝ }
+pub fn value_at(tables: &[u64], w: Writer, c: usize) -> WrittenConstant
+    requires { ⌜ RoomIn noCost w (now tables) ⌝ }
     ensures { λ r. ⌜ ValueAt c w (now (tables .entry)) r ⌝ }
 {
     if w.values <= c {
-        return Value {
+        return WrittenConstant {
             id: 0,
             ty: 0,
             kind: 0,
         };
     }
     let p = VALUES * w.records + 3 * c;
-    Value {
+    WrittenConstant {
         id: tables[p],
         ty: tables[p + 1],
         kind: tables[p + 2],

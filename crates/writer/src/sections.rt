@@ -9,8 +9,8 @@ use spirv::low_word;
 ghost use mathlib.Core.List.{[], _∷_};
 ghost use Prim.Native.Nat.{_+_, _≤_, _<_};
 ghost use lib.ListN.{length};
-ghost use Rattle.definition.specs.Instructions.{decorate, memberDecorate, typeArray, typeRuntimeArray, typeStruct, typePointer, constantTrue, constantFalse, constantNull, constant, constantComposite, variable};
-ghost use Rattle.spirv.specs.Ids.{low, initOf};
+ghost use Rattle.definition.specs.Instructions.{decorate, memberDecorate, typeArray, typeRuntimeArray, typeStruct, typePointer, constantTrue, constantFalse, constantNull, constantOp, constantComposite, variable};
+ghost use Rattle.spirv.specs.Ids.{low, initializerOf};
 ghost use Rattle.spirv.specs.Heads.{structHead};
 ghost use Rattle.writer.specs.Regions.{annotations, declarations};
 ghost use Rattle.writer.specs.Cost.{annotating, declaring};
@@ -146,7 +146,7 @@ pub fn constant_null(sections: &mut [u32], mut w: Writer, ty: u64, id: u64) -> W
 
 pub fn constant_32bit(sections: &mut [u32], mut w: Writer, ty: u64, id: u64, value: u32) -> Writer
     requires { ⌜ RoomFor (declaring 4) w (now sections) ⌝ }
-    ensures { λ r. ⌜ Puts declarations 4 (constant ty id (value ∷ [])) w (now (sections .entry)) r (now (sections .exit)) ⌝ }
+    ensures { λ r. ⌜ Puts declarations 4 (constantOp ty id (value ∷ [])) w (now (sections .entry)) r (now (sections .exit)) ⌝ }
 {
     let start = DECLARATIONS * w.bytes + w.declarations;
     let n = instructions::constant_32bit(&mut sections[start..], low_word(ty), low_word(id), value);
@@ -163,7 +163,7 @@ pub fn constant_64bit(
     high: u32,
 ) -> Writer
     requires { ⌜ RoomFor (declaring 5) w (now sections) ⌝ }
-    ensures { λ r. ⌜ Puts declarations 5 (constant ty id (low ∷ high ∷ [])) w (now (sections .entry)) r (now (sections .exit)) ⌝ }
+    ensures { λ r. ⌜ Puts declarations 5 (constantOp ty id (low ∷ high ∷ [])) w (now (sections .entry)) r (now (sections .exit)) ⌝ }
 {
     let start = DECLARATIONS * w.bytes + w.declarations;
     let n = instructions::constant_64bit(
@@ -207,7 +207,7 @@ pub fn variable(
     init: Initializer,
 ) -> Writer
     requires { ⌜ RoomFor (declaring 5) w (now sections) ⌝ }
-    ensures { λ r. ⌜ Puts declarations 5 (variable ty id class (initOf init)) w (now (sections .entry)) r (now (sections .exit)) ⌝ }
+    ensures { λ r. ⌜ Puts declarations 5 (variable ty id class (initializerOf init)) w (now (sections .entry)) r (now (sections .exit)) ⌝ }
 {
     let start = DECLARATIONS * w.bytes + w.declarations;
     let n = instructions::variable(

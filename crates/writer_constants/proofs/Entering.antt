@@ -22,7 +22,7 @@ use Rattle.definition.proofs.Truth.{pick-for}
 use Rattle.lookup.specs.Packed.{code}
 use Rattle.writer.specs.declared.Writer.{Writer}
 use Rattle.writer.specs.declared.Taken.{Taken}
-use Rattle.writer.specs.declared.Value as Read
+use Rattle.writer.specs.declared.WrittenConstant as Read
 use Rattle.writer.specs.Rows.{part}
 use Rattle.writer.specs.Regions.{partsAt}
 use Rattle.writer.specs.Cost.{Cost, anId, aValue, aComposite, declaring, _⊕_}
@@ -110,7 +110,7 @@ module _ (ts : List TypeEntry) (w : Writer) (T S : List ℕ) where
         (x .held (some (literalKind L)) e (literal-small L) S₁ (literal L s) (p .gives s h));
   }
 
-  pub alias-entered : (c : ℕ) (r : Read.Value) → ValueAt c w T r → (v : Writer) (T₂ : List ℕ) → EnteredValue (r .id) (r .ty) (r .kind) w T v T₂ → ConstantWritten aValue ts (Alias c) w T S v T₂ S
+  pub alias-entered : (c : ℕ) (r : Read.WrittenConstant) → ValueAt c w T r → (v : Writer) (T₂ : List ℕ) → EnteredValue (r .id) (r .ty) (r .kind) w T v T₂ → ConstantWritten aValue ts (Alias c) w T S v T₂ S
   unfolding declareConstant constantOf
   alias-entered c r p v T₂ x = record {
     grown = x .grown;
@@ -151,7 +151,7 @@ module _ (ts : List TypeEntry) (w : Writer) (T S : List ℕ) where
     held = composite-entered (entry t) n (λ (s : State). idsOf s cs) T₁ st (compositeCost (entry t) n) g T₂ S₂ q v T₃ x;
   }
 
-  pub splat-entered : (n c : ℕ) (r : Read.Value) → ValueAt c w T r → (k : Key) → SplatType n (r .kind) k → (T₁ : List ℕ) → Staged n (λ (s : State). replicate n (r .id)) w T T₁
+  pub splat-entered : (n c : ℕ) (r : Read.WrittenConstant) → ValueAt c w T r → (k : Key) → SplatType n (r .kind) k → (T₁ : List ℕ) → Staged n (λ (s : State). replicate n (r .id)) w T T₁
       → (g : Taken) (T₂ S₂ : List ℕ) → FoundBy (compositeCost k n) (compositeOf k (part T₁ (partsAt w + w .parts) n)) w T₁ S g T₂ S₂
       → (v : Writer) (T₃ : List ℕ) → EnteredFound k 0 g T₂ v T₃ → ConstantWritten (expressionCost (Splat n c)) ts (Splat n c) w T S v T₃ S₂
   unfolding declareConstant constantOf

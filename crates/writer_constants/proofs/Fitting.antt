@@ -15,14 +15,14 @@ use Rattle.definition.specs.Tests.{memberTypes, present}
 use Rattle.definition.specs.Shapes.{Kind, Key, kindOf, scalar, vector, entry, shape}
 use Rattle.definition.specs.State.{State, idOf}
 use Rattle.definition.specs.Rules.{valueAt}
-use Rattle.definition.specs.Unfit.{Places, each, members, nowhere, placesOf, ofType, membersFit}
+use Rattle.definition.specs.Unfit.{PartPlaces, each, members, nowhere, partPlacesOf, ofType, membersFit}
 use Rattle.definition.proofs.Truth.{pick-for}
 use Rattle.writer.specs.declared.Writer.{Writer}
-use Rattle.writer.specs.declared.Value.{Value}
+use Rattle.writer.specs.declared.WrittenConstant.{WrittenConstant}
 use Rattle.writer.specs.Held.{kindCode, Held}
 use Rattle.writer.specs.Steps.{ValueAt}
 use Rattle.writer_constants.specs.Entered.{TypeId}
-use Rattle.writer_constants.specs.Fitting.{allOf, OfType, Fit}
+use Rattle.writer_constants.specs.Fitting.{allOf, TestsEachPart, TestsParts}
 use Rattle.writer_constants.proofs.Staging.{u16s-length}
 
 -- ---- parts of one type
@@ -43,14 +43,14 @@ module _ (s : State) (id : ℕ) (b : List ℕ) (p : ℕ) where
   none-left k e = ap (λ (j : ℕ). allOf s id (u16sAt b p j)) e
 
 -- what the program read is the state's
-pub type-read : (c c′ : ℕ) (w : Writer) (T : List ℕ) (v : Value) → ValueAt c w T v → c ≡ c′ → (S : List ℕ) (s : State) → Held w T S s → v .ty ≡ valueAt s c′ .type
+pub type-read : (c c′ : ℕ) (w : Writer) (T : List ℕ) (v : WrittenConstant) → ValueAt c w T v → c ≡ c′ → (S : List ℕ) (s : State) → Held w T S s → v .ty ≡ valueAt s c′ .type
 type-read c c′ w T v r e S s h = r .held S s h .type ∙ ap (λ (j : ℕ). valueAt s j .type) e
 
 module _ (w : Writer) (T b : List ℕ) (n size : ℕ) (k : Key) where
-  pub other-count : (n ≡ size → ⊥) → Fit (each size k) (u16sAt b 4 n) w T false
+  pub other-count : (n ≡ size → ⊥) → TestsParts (each size k) (u16sAt b 4 n) w T false
   other-count h S s y = let l = u16s-length b 4 n in sym (rw (l, ne-eqb n size h))
 
-  pub this-count : n ≡ size → (id : ℕ) → TypeId k w T id → (r : Bool) → OfType id (u16sAt b 4 n) w T r → Fit (each size k) (u16sAt b 4 n) w T r
+  pub this-count : n ≡ size → (id : ℕ) → TypeId k w T id → (r : Bool) → TestsEachPart id (u16sAt b 4 n) w T r → TestsParts (each size k) (u16sAt b 4 n) w T r
   this-count e id t r o S s y = let l = u16s-length b 4 n in let q = t S s y in o S s y ∙ ap (λ (j : ℕ). allOf s j (u16sAt b 4 n)) q ∙ sym (rw (l, eq-eqb n size e))
 
 -- ---- parts of a struct's members
@@ -88,8 +88,8 @@ module _ (s : State) (d : List ℕ) (p : ℕ) (b : List ℕ) (q : ℕ) where
 -- ---- the places that a type of tag t and body d gives, whose name ends at p
 
 module _ (t : ℕ) (d : List ℕ) (p : ℕ) where
-  abbrev places : Places
-  places = placesOf (typeFields t d p .value)
+  abbrev places : PartPlaces
+  places = partPlacesOf (typeFields t d p .value)
 
   pub vector-places : t ≡ 17 → places ≡ each (u8At d p) (shape (scalar (kindOf (u8At d (p + 1)) (u8At d (p + 2)))))
   unfolding typeFields
@@ -114,13 +114,13 @@ module _ (t : ℕ) (d : List ℕ) (p : ℕ) where
   pub no-places : (t ≡ 17 → ⊥) → (t ≡ 18 → ⊥) → (t ≡ 22 → ⊥) → (t ≡ 23 → ⊥) → places ≡ nowhere
   unfolding typeFields
   no-places h17 h18 h22 h23 =
-      let P : Fields TypeInner → Type 0 = λ f. placesOf (f .value) ≡ nowhere in
+      let P : Fields TypeInner → Type 0 = λ f. partPlacesOf (f .value) ≡ nowhere in
       rw (ne-eqb t 17 h17, ne-eqb t 18 h18, ne-eqb t 22 h22, ne-eqb t 23 h23)
       (pick-for P (eqb t 16) _ _ refl (pick-for P (eqb t 19) _ _ refl (pick-for P (eqb t 20) _ _ refl (pick-for P (eqb t 21) _ _ refl (pick-for P (eqb t 24) _ _ refl
       (pick-for P (eqb t 25) _ _ refl (pick-for P (eqb t 26) _ _ refl (pick-for P (eqb t 27) _ _ refl refl))))))))
 
-  pub fit-by : p ≡ nameEnd d 0 → (cs : List ℕ) (w : Writer) (T : List ℕ) (r : Bool) (y : Places) → places ≡ y → Fit y cs w T r → Fit (placesOf (typeFields t d (nameEnd d 0) .value)) cs w T r
-  fit-by ep cs w T r y e f = subst (λ (z : Places). Fit z cs w T r) (sym e ∙ ap (λ (n : ℕ). placesOf (typeFields t d n .value)) ep) f
+  pub fit-by : p ≡ nameEnd d 0 → (cs : List ℕ) (w : Writer) (T : List ℕ) (r : Bool) (y : PartPlaces) → places ≡ y → TestsParts y cs w T r → TestsParts (partPlacesOf (typeFields t d (nameEnd d 0) .value)) cs w T r
+  fit-by ep cs w T r y e f = subst (λ (z : PartPlaces). TestsParts z cs w T r) (sym e ∙ ap (λ (n : ℕ). partPlacesOf (typeFields t d n .value)) ep) f
 
 -- ---- a Splat's value has a kind
 

@@ -13,14 +13,14 @@ use Rattle.definition.specs.Literals.{Literal}
 use Rattle.definition.specs.Sheet.{Record, Fields, TypeEntry, Expression, formOf, literalFields, constantFields}
 use Rattle.definition.specs.Tests.{expressionFits}
 use Rattle.definition.proofs.Truth.{pick-for, both}
-use Rattle.entries.specs.Constants.{expressionOf, Taken}
+use Rattle.entries.specs.Constants.{expressionOf, ConstantTaken}
 use Rattle.entries.specs.declared.constants.Expression as Read
 use Rattle.writer.specs.declared.Writer.{Writer}
 use Rattle.writer.specs.Cost.{recordCost}
 use Rattle.writer.specs.Held.{Room}
 use Rattle.finding.proofs.Prices.{AtMost}
 use Rattle.writer_constants.specs.Entered.{expressionCost, FewParts, ConstantWritten}
-use Rattle.writer_constants.specs.Tested.{fieldsOf, Tested}
+use Rattle.writer_constants.specs.Tested.{fieldsOf, ConstantTested}
 use Rattle.writer_constants.proofs.Staging.{u16s-length}
 
 -- ---- by the tag
@@ -48,7 +48,7 @@ module _ (b : List ℕ) where
 
 -- ---- of a tested record
 
-module _ (n : ℕ) (r : Record) (t : Tested n r) where
+module _ (n : ℕ) (r : Record) (t : ConstantTested n r) where
   cheap : AtMost (expressionCost (fieldsOf r .value)) (recordCost (length (r .body) + 3)) × FewParts (fieldsOf r .value)
   cheap = priced (r .body) (r .tag) (t .whole) (t .values) (t .small)
 
@@ -63,7 +63,7 @@ module _ (n : ℕ) (r : Record) (t : Tested n r) where
   written ts w T S v T′ S′ h = record { grown = omega (arith, cheap .0, h .grown); held = h .held }
 
   -- what the program takes for the constant is the constant
-  pub is-taken : (tag : ℕ) (b : List ℕ) → tag ≡ r .tag → b ≡ r .body → (e : Read.Expression) → Taken tag b e → expressionOf b e ≡ fieldsOf r .value
+  pub is-taken : (tag : ℕ) (b : List ℕ) → tag ≡ r .tag → b ≡ r .body → (e : Read.Expression) → ConstantTaken tag b e → expressionOf b e ≡ fieldsOf r .value
   is-taken tag b et eb e h =
       let p : constantFields tag b ≡ fieldsOf r = λ j. constantFields (et j) (eb j) in
       h (ap (λ (f : Fields Expression). expressionFits (f .value)) p ∙ t .values) ∙ ap (λ (f : Fields Expression). f .value) p

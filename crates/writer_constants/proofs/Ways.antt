@@ -10,7 +10,7 @@ use Rattle.definition.specs.Instructions.{constantComposite}
 use Rattle.definition.specs.Shapes.{Key}
 use Rattle.definition.specs.State.{State, Got, composite}
 use Rattle.definition.specs.Finding.{find, enterComposite, orNewValue, compositeOf}
-use Rattle.lookup.specs.Packed.{packed, Small}
+use Rattle.lookup.specs.Packed.{packedKey, Small}
 use Rattle.writer.specs.declared.Writer.{Writer}
 use Rattle.writer.specs.declared.Taken.{Taken}
 use Rattle.writer.specs.declared.Sought.{Sought}
@@ -24,7 +24,7 @@ use Rattle.finding.specs.Costs.{costOf}
 use Rattle.finding.proofs.Ways.{taken, gives-new}
 use Rattle.writer_constants.specs.Entered.{compositeCost}
 
-module _ (k : Key) (sm : Small k) (key : ℕ) (ek : key ≡ packed k) (n : ℕ) (w : Writer) (T S : List ℕ) (r : Sought) (er : FindsComposite key n w T r) where
+module _ (k : Key) (sm : Small k) (key : ℕ) (ek : key ≡ packedKey k) (n : ℕ) (w : Writer) (T S : List ℕ) (r : Sought) (er : FindsComposite key n w T r) where
   abbrev xs : List ℕ
   xs = part T (partsAt w + w .parts) n
 

@@ -12,7 +12,7 @@ fieldsOf r = constantFields (r .tag) (r .body)
 
 -- they end where the body ends, they have values that they may have, and the types that they name are among the first n;
 -- a body is at most what a 16-bit length says
-pub record Tested (n : ℕ) (r : Record) : Type 0 where
+pub record ConstantTested (n : ℕ) (r : Record) : Type 0 where
   pub whole : fieldsOf r .end ≡ length (r .body)
   pub values : expressionFits (fieldsOf r .value) ≡ true
   pub types : below n (expressionTypes (fieldsOf r .value)) ≡ true

@@ -21,13 +21,13 @@ ghost use Rattle.writer_constants.specs.Staged.{Staged};
 ghost use Rattle.writer_constants.specs.Entered.{compositeCost};
 
 // The parts of a Compose: the ids of the n constants that its body names.
-pub fn stage_parts(tables: &mut [u64], w: Writer, b: &[u8], n: usize)
+pub fn stage_parts(tables: &mut [u64], w: Writer, body: &[u8], n: usize)
     requires { ⌜ (n < 65536) × RoomIn (staging n) w (now tables) ⌝ }
-    ensures { λ _. ⌜ Staged n (λ (s : State). idsOf s (u16sAt (now (b .entry)) 4 n)) w (now (tables .entry)) (now (tables .exit)) ⌝ }
+    ensures { λ _. ⌜ Staged n (λ (s : State). idsOf s (u16sAt (now (body .entry)) 4 n)) w (now (tables .entry)) (now (tables .exit)) ⌝ }
 {
     let mut i = 0;
     while i < n {
-        let v = writer::value_at(tables, w, fields::u16_at(b, 4 + 2 * i) as usize);
+        let v = writer::value_at(tables, w, fields::u16_at(body, 4 + 2 * i) as usize);
         writer::stage_part(tables, w, i, v.id);
         i += 1;
     }
@@ -51,19 +51,19 @@ pub fn get_constant_composite(
     tables: &mut [u64],
     sections: &mut [u32],
     w: Writer,
-    t: LookupType,
+    ty: LookupType,
     n: usize,
 ) -> Taken
-    requires { ⌜ (n < 65000) × Room (compositeCost (keyOf t) n) w (now tables) (now sections) ⌝ }
-    ensures { λ r. ⌜ FoundBy (compositeCost (keyOf t) n) (compositeOf (keyOf t) (part (now (tables .entry)) (partsAt w + w .parts) n)) w (now (tables .entry)) (now (sections .entry)) r (now (tables .exit)) (now (sections .exit)) ⌝ }
+    requires { ⌜ (n < 65000) × Room (compositeCost (keyOf ty) n) w (now tables) (now sections) ⌝ }
+    ensures { λ r. ⌜ FoundBy (compositeCost (keyOf ty) n) (compositeOf (keyOf ty) (part (now (tables .entry)) (partsAt w + w .parts) n)) w (now (tables .entry)) (now (sections .entry)) r (now (tables .exit)) (now (sections .exit)) ⌝ }
 {
-    let k = lookup::key(t);
+    let k = lookup::key(ty);
     match writer::find_composite(tables, w, k, n) {
         Sought::Id(id) => Taken { id, writer: w },
         Sought::Absent => {
             let m = writer::take_id(w);
             let id = m.id;
-            let f = get_type_id(tables, sections, m.writer, t);
+            let f = get_type_id(tables, sections, m.writer, ty);
             let v = writer::declare_composite(tables, sections, f.writer, f.id, id, n);
             let u = writer::enter_composite(tables, v, k, n, id);
             Taken { id, writer: u }

@@ -4,15 +4,15 @@ use crate::composites::get_constant_composite;
 use crate::composites::stage_parts;
 use crate::composites::stage_splat;
 use entries::constants::Expression;
+use finding::get_constant_null;
 use finding::get_constant_scalar;
 use finding::literal_type;
 use finding::type_id;
-use finding::write_constant_null;
 use kinds::ScalarKind;
 use literals::Literal;
 use lookup::LocalType;
 use lookup::LookupType;
-use lookup::PointerClass;
+use lookup::PointerSpace;
 use lookup::VectorSize;
 use writer::Taken;
 use writer::Writer;
@@ -115,7 +115,7 @@ pub fn vector_type(size: u8, kind: ScalarKind, width: u8) -> LookupType
         size: VectorSize::Many(size),
         kind,
         width,
-        class: PointerClass::Nowhere,
+        class: PointerSpace::Nowhere,
     })
 }
 
@@ -135,16 +135,16 @@ pub fn write_constant_expr(
     tables: &mut [u64],
     sections: &mut [u32],
     w: Writer,
-    s: &[u8],
+    sheet: &[u8],
     types: &[u32],
-    n: usize,
-    b: &[u8],
-    e: Expression,
+    ntypes: usize,
+    body: &[u8],
+    expr: Expression,
 ) -> Writer
-    requires { ⌜ (n ≤ length (now types)) × (FewParts (expressionOf (now b) e) × Room (expressionCost (expressionOf (now b) e)) w (now tables) (now sections)) ⌝ }
-    ensures { λ r. ⌜ ConstantWritten (expressionCost (expressionOf (now (b .entry)) e)) (typesFrom (now (s .entry)) (now (types .entry)) n) (expressionOf (now (b .entry)) e) w (now (tables .entry)) (now (sections .entry)) r (now (tables .exit)) (now (sections .exit)) ⌝ }
+    requires { ⌜ (ntypes ≤ length (now types)) × (FewParts (expressionOf (now body) expr) × Room (expressionCost (expressionOf (now body) expr)) w (now tables) (now sections)) ⌝ }
+    ensures { λ r. ⌜ ConstantWritten (expressionCost (expressionOf (now (body .entry)) expr)) (typesFrom (now (sheet .entry)) (now (types .entry)) ntypes) (expressionOf (now (body .entry)) expr) w (now (tables .entry)) (now (sections .entry)) r (now (tables .exit)) (now (sections .exit)) ⌝ }
 {
-    match e {
+    match expr {
         Expression::Literal(l) => {
             let g = get_constant_scalar(tables, sections, w, l);
             enter_found(tables, g, literal_type(l), literal_code(l))
@@ -155,16 +155,16 @@ pub fn write_constant_expr(
         }
         Expression::ZeroValue(t) => {
             let x = type_id(tables, w, LookupType::Handle(t));
-            let g = write_constant_null(tables, sections, w, x);
+            let g = get_constant_null(tables, sections, w, x);
             enter_found(
                 tables,
                 g,
                 LookupType::Handle(t),
-                scalar_kind(s, types, n, t),
+                scalar_kind(sheet, types, ntypes, t),
             )
         }
         Expression::Compose { ty, count } => {
-            stage_parts(tables, w, b, count as usize);
+            stage_parts(tables, w, body, count as usize);
             let g = get_constant_composite(
                 tables,
                 sections,

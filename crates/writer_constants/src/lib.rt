@@ -13,44 +13,44 @@ ghost use lib.ListN.{length};
 ghost use Rattle.definition.specs.Sheet.{recordAt, constantFields};
 ghost use Rattle.records.specs.Places.{typesFrom};
 ghost use Rattle.zeroable.specs.Memo.{Memo};
-ghost use Rattle.writer.specs.Cost.{nothing, recordCost};
+ghost use Rattle.writer.specs.Cost.{noCost, recordCost};
 ghost use Rattle.writer.specs.Held.{RoomIn, Room};
-ghost use Rattle.writer_constants.specs.Tested.{Tested};
+ghost use Rattle.writer_constants.specs.Tested.{ConstantTested};
 ghost use Rattle.writer_constants.specs.Entered.{ConstantWritten};
-ghost use Rattle.writer_constants.specs.Fitting.{Fits};
+ghost use Rattle.writer_constants.specs.Fitting.{TestsConstant};
 
 // Declares and enters the constant of the record at the front of `rest`; the sheet's first n types stand at these places.
 pub fn write_constant(
     tables: &mut [u64],
     sections: &mut [u32],
     w: Writer,
-    s: &[u8],
+    sheet: &[u8],
     types: &[u32],
-    n: usize,
+    ntypes: usize,
     rest: &[u8],
 ) -> Writer
-    requires { ⌜ (n ≤ length (now types)) × (Tested n (recordAt (now rest)) × Room (recordCost (length (recordAt (now rest) .body) + 3)) w (now tables) (now sections)) ⌝ }
-    ensures { λ r. ⌜ ConstantWritten (recordCost (length (recordAt (now (rest .entry)) .body) + 3)) (typesFrom (now (s .entry)) (now (types .entry)) n) (constantFields (recordAt (now (rest .entry)) .tag) (recordAt (now (rest .entry)) .body) .value) w (now (tables .entry)) (now (sections .entry)) r (now (tables .exit)) (now (sections .exit)) ⌝ }
+    requires { ⌜ (ntypes ≤ length (now types)) × (ConstantTested ntypes (recordAt (now rest)) × Room (recordCost (length (recordAt (now rest) .body) + 3)) w (now tables) (now sections)) ⌝ }
+    ensures { λ r. ⌜ ConstantWritten (recordCost (length (recordAt (now (rest .entry)) .body) + 3)) (typesFrom (now (sheet .entry)) (now (types .entry)) ntypes) (constantFields (recordAt (now (rest .entry)) .tag) (recordAt (now (rest .entry)) .body) .value) w (now (tables .entry)) (now (sections .entry)) r (now (tables .exit)) (now (sections .exit)) ⌝ }
 {
     let b = records::body_of(rest);
     let e = expression_of(records::tag_of(rest), b);
-    write_constant_expr(tables, sections, w, s, types, n, b, e)
+    write_constant_expr(tables, sections, w, sheet, types, ntypes, b, e)
 }
 
 // Test 13 of the constant of the record at the front of `rest`. The memo is zeroable's.
 pub fn constant_fits(
     tables: &[u64],
     w: Writer,
-    s: &[u8],
+    sheet: &[u8],
     types: &[u32],
-    n: usize,
+    ntypes: usize,
     memo: &mut [u8],
     rest: &[u8],
 ) -> bool
-    requires { ⌜ (n ≤ length (now types)) × (Tested n (recordAt (now rest)) × (RoomIn nothing w (now tables) × Memo (typesFrom (now s) (now types) n) (now memo))) ⌝ }
-    ensures { λ r. ⌜ Fits (typesFrom (now (s .entry)) (now (types .entry)) n) (constantFields (recordAt (now (rest .entry)) .tag) (recordAt (now (rest .entry)) .body) .value) w (now (tables .entry)) r × Memo (typesFrom (now (s .entry)) (now (types .entry)) n) (now (memo .exit)) ⌝ }
+    requires { ⌜ (ntypes ≤ length (now types)) × (ConstantTested ntypes (recordAt (now rest)) × (RoomIn noCost w (now tables) × Memo (typesFrom (now sheet) (now types) ntypes) (now memo))) ⌝ }
+    ensures { λ r. ⌜ TestsConstant (typesFrom (now (sheet .entry)) (now (types .entry)) ntypes) (constantFields (recordAt (now (rest .entry)) .tag) (recordAt (now (rest .entry)) .body) .value) w (now (tables .entry)) r × Memo (typesFrom (now (sheet .entry)) (now (types .entry)) ntypes) (now (memo .exit)) ⌝ }
 {
     let b = records::body_of(rest);
     let e = expression_of(records::tag_of(rest), b);
-    expression_fits(tables, w, s, types, n, memo, b, e)
+    expression_fits(tables, w, sheet, types, ntypes, memo, b, e)
 }

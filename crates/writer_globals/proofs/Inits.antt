@@ -11,19 +11,19 @@ use Rattle.definition.specs.Finding.{find, nullOf}
 use Rattle.definition.specs.Rules.{initFor, valueAt}
 use Rattle.writer.specs.declared.Writer.{Writer}
 use Rattle.writer.specs.declared.Taken.{Taken}
-use Rattle.writer.specs.declared.Value.{Value}
+use Rattle.writer.specs.declared.WrittenConstant.{WrittenConstant}
 use Rattle.spirv.specs.declared.instructions.Initializer.{Initializer}
 use Rattle.spirv.specs.declared.instructions.Initializer.the-variants.{Nothing, Id}
-use Rattle.writer.specs.Cost.{nothing}
+use Rattle.writer.specs.Cost.{noCost}
 use Rattle.writer.specs.Steps.{GotBy, ValueAt}
 use Rattle.finding.specs.Costs.{nullCost}
-use Rattle.writer_globals.specs.declared.Inited.{Inited}
+use Rattle.writer_globals.specs.declared.TakenInit.{TakenInit}
 use Rattle.writer_globals.specs.Globals.{Initialised}
 use Rattle.writer_globals.proofs.Rooms.{grown-still, tail-same, tail-then}
 
 -- ---- the init
 
-abbrev pub inited : Initializer → Writer → Inited
+abbrev pub inited : Initializer → Writer → TakenInit
 inited i w = record { init = i; writer = w }
 
 module _ (o : Option ℕ) (null : Bool) (t : ℕ) {w : Writer} {T S : List ℕ} where
@@ -36,7 +36,7 @@ module _ (o : Option ℕ) (null : Bool) (t : ℕ) {w : Writer} {T S : List ℕ} 
         rw f (record { named = refl; held = h });
   }
 
-  pub constant-init : {c : ℕ} → o ≡ some c → {x : Value} → ValueAt c w T x → Initialised (initFor o null t) w T S (inited (Id (x .id)) w) T S
+  pub constant-init : {c : ℕ} → o ≡ some c → {x : WrittenConstant} → ValueAt c w T x → Initialised (initFor o null t) w T S (inited (Id (x .id)) w) T S
   constant-init {c = c} e v = record {
     grown = grown-still nullCost w;
     tail = tail-same w T;
@@ -45,7 +45,7 @@ module _ (o : Option ℕ) (null : Bool) (t : ℕ) {w : Writer} {T S : List ℕ} 
         rw f (record { named = ap some (v .held S s h .id); held = h });
   }
 
-  pub null-init : o ≡ none → null ≡ true → {f : Taken} {T₁ S₁ : List ℕ} → GotBy nothing (find (entry t)) w T S f T₁ S₁
+  pub null-init : o ≡ none → null ≡ true → {f : Taken} {T₁ S₁ : List ℕ} → GotBy noCost (find (entry t)) w T S f T₁ S₁
       → {z : Taken} {T₂ S₂ : List ℕ} → GotBy nullCost (nullOf (f .id)) (f .writer) T₁ S₁ z T₂ S₂ → Initialised (initFor o null t) w T S (inited (Id (z .id)) (z .writer)) T₂ S₂
   null-init e n {f = f} p q = record {
     grown = omega (arith, p .grown, q .grown);

@@ -29,7 +29,7 @@ use Rattle.entries.specs.declared.globals.GlobalVariable.{GlobalVariable}
 use Rattle.writer.specs.declared.Writer.{Writer}
 use Rattle.writer.specs.declared.Taken.{Taken}
 use Rattle.writer.specs.Regions.{names, annotations}
-use Rattle.writer.specs.Cost.{Cost, nothing, annotating, naming, _⊕_}
+use Rattle.writer.specs.Cost.{Cost, noCost, annotating, naming, _⊕_}
 use Rattle.writer.specs.Held.{Held}
 use Rattle.writer.specs.Steps.{Kept, GotBy, Puts, Added}
 use Rattle.writer_globals.specs.Globals.{bindingDecorated}
@@ -128,7 +128,7 @@ module _ (storage : Bool) (o : Option ℕ) where
     pub no-base : o ≡ none → (s : State) → blockBase storage o s ≡ s
     no-base z s = λ j. blockBase (e j) (z j) s
 
-    pub on-base : {b : ℕ} → o ≡ some b → {w v : Writer} {T S T₁ S₁ S₂ : List ℕ} {f : Taken} → GotBy nothing (find (entry b)) w T S f T₁ S₁
+    pub on-base : {b : ℕ} → o ≡ some b → {w v : Writer} {T S T₁ S₁ S₂ : List ℕ} {f : Taken} → GotBy noCost (find (entry b)) w T S f T₁ S₁
         → Puts annotations 3 (block (f .id)) (f .writer) S₁ v S₂ → Kept (annotating 3) (blockBase storage o) w T S v T₁ S₂
     on-base {b = b} z {v = v} {T₁ = T₁} {S₂ = S₂} p q =
         record {

@@ -14,9 +14,9 @@ use Rattle.definition.specs.Numbers.{DecorationOffset}
 use Rattle.definition.specs.Instructions.{memberDecorate, typeStruct, typePointer}
 use Rattle.definition.specs.Sheet.{TypeEntry, Remap, Global}
 use Rattle.definition.specs.Shapes.{entry, shape, pointer, storageClass}
-use Rattle.definition.specs.State.{State, Got, takeId, annotate, declare}
+use Rattle.definition.specs.State.{State, Got, takeId, annotate, declareAlone}
 use Rattle.definition.specs.Finding.{find}
-use Rattle.definition.specs.Rules.{block, strideMember, innerAt, matrixStride, elementOf, needsWrapper, isBound, bindingBase, remapOf, remappedForm, direct, wrapped, pointerOf}
+use Rattle.definition.specs.Rules.{block, strideMember, innerAt, matrixStride, elementOf, needsWrapper, isBound, bindingBase, remapOf, remappedForm, direct, inWrapper, pointerOf}
 use Rattle.definition.proofs.Truth.{pick-for}
 use Rattle.kinds.specs.Numbers.{spaceNumber}
 use Rattle.entries.specs.Globals.{globalOf, boundNumber, groupNumber, bindingNumber}
@@ -28,7 +28,7 @@ use Rattle.type_facts.specs.Facets.{numberOf}
 use Rattle.writer.specs.declared.Writer.{Writer}
 use Rattle.writer.specs.declared.Taken.{Taken}
 use Rattle.writer.specs.Regions.{annotations, declarations}
-use Rattle.writer.specs.Cost.{Cost, nothing, anId, annotating, declaring}
+use Rattle.writer.specs.Cost.{Cost, noCost, anId, annotating, declaring}
 use Rattle.writer.specs.Held.{Held, Grown, Room, RoomIn, RoomFor}
 use Rattle.writer.specs.Steps.{GotBy, Took, Puts, Added}
 use Rattle.finding.proofs.Prices.{AtMost}
@@ -44,7 +44,7 @@ use Rattle.writer_globals.proofs.Rooms.{_▹_, grown-within, words-left
 
 module _ {w : Writer} {T S : List ℕ} (room : Room wrapperCost w T S) {n : Writer} (g₀ : Grown anId w n) {a : Writer} (g₁ : Grown (annotating 3) n a)
     {c : Writer} (g₂ : Grown (memberCost false []) a c) where
-  pub room-find : RoomIn nothing c T
+  pub room-find : RoomIn noCost c T
   room-find = omega (arith, g₀ ▹ g₁ ▹ g₂, room .rows)
 
   pub room-struct : {S′ : List ℕ} → length S′ ≡ length S → RoomFor (declaring 3) c S′
@@ -60,7 +60,7 @@ module _ {w : Writer} {T S : List ℕ} (room : Room wrapperCost w T S) {n : Writ
 pub wrapper : (t class : ℕ) (o : Option ℕ) {w : Writer} {T S : List ℕ} {n : Taken} → Took w n
     → {a : Writer} {S₁ : List ℕ} → Puts annotations 3 (block (n .id)) (n .writer) S a S₁
     → {c : Writer} {S₃ : List ℕ} → Added (memberCost false []) (memberDecorated (n .id) 0 0 false [] o) a S₁ c S₃
-    → {f : Taken} {T₄ S₄ : List ℕ} → GotBy nothing (find (entry t)) c T S₃ f T₄ S₄
+    → {f : Taken} {T₄ S₄ : List ℕ} → GotBy noCost (find (entry t)) c T S₃ f T₄ S₄
     → {d : Writer} {S₅ : List ℕ} → Puts declarations 3 (typeStruct (n .id) (f .id ∷ [])) (f .writer) S₄ d S₅
     → {m : Taken} → Took d m
     → {u : Writer} {S₆ : List ℕ} → Puts declarations 4 (typePointer (m .id) class (n .id)) (m .writer) S₅ u S₆ → GotBy wrapperCost (wrapIn o t class) w T S (taken (m .id) u) T₄ S₆
@@ -78,15 +78,15 @@ wrapper t class o {w = w} {T = T} {S = S} {n = n} p q₁ q₃ {f = f} {T₄ = T�
           let h₂ = q₁ .held T (takeId s) (p .held T S s h) in
           let h₄ = q₃ .held T (annotate (block i) (takeId s)) h₂ in
           let g = q₄ .gives (A i) h₄ in
-          let v = declare (typeStruct i (f .id ∷ [])) (F i .state) in
+          let v = declareAlone (typeStruct i (f .id ∷ [])) (F i .state) in
           let h₅ = q₅ .held T₄ (F i .state) (g .held) in
           let em : m .id ≡ suc (F i .state .last) = p₂ .named ∙ ap suc (h₅ .last) in
           let h₆ = q₆ .held T₄ (takeId v) (p₂ .held T₄ S₅ v h₅) in
           record {
             named = em ∙ ap (λ (k : ℕ). suc (F k .state .last)) ei;
             held = subst (Held u T₄ S₆)
-                ((λ j. declare (typePointer (em j) class i) (takeId (declare (typeStruct i (g .named j ∷ [])) (F i .state))))
-                ∙ ap (λ (k : ℕ). declare (typePointer (suc (F k .state .last)) class k) (takeId (declare (typeStruct k (F k .id ∷ [])) (F k .state)))) ei) h₆;
+                ((λ j. declareAlone (typePointer (em j) class i) (takeId (declareAlone (typeStruct i (g .named j ∷ [])) (F i .state))))
+                ∙ ap (λ (k : ℕ). declareAlone (typePointer (suc (F k .state .last)) class k) (takeId (declareAlone (typeStruct k (F k .id ∷ [])) (F k .state)))) ei) h₆;
           };
     }
 
@@ -130,13 +130,13 @@ module _ (ts : List TypeEntry) (rs : List Remap) (g : GlobalVariable) (b : List 
   pub is-wrapped : needsWrapper ts gl ≡ true → (d : Number) → numberOf d ≡ matrixStride (elementOf ts (innerAt ts (g .ty))) → pointerBy (Wrapped d) g x ≡ pointerOf (pointerFormIn ts rs gl) ts gl x
   is-wrapped e d q =
       ap (λ (o : Option ℕ). wrapIn o (g .ty) (storageClass (spaceNumber (g .space))) x) q
-      ∙ sym (ap (λ (c : Bool). pointerOf (pick c wrapped (pick (isBound gl) (remappedForm (bindingBase (innerAt ts (g .ty))) (remapOf rs (gl .group) (gl .binding))) direct)) ts gl x) e)
+      ∙ sym (ap (λ (c : Bool). pointerOf (pick c inWrapper (pick (isBound gl) (remappedForm (bindingBase (innerAt ts (g .ty))) (remapOf rs (gl .group) (gl .binding))) direct)) ts gl x) e)
 
   module _ (e : needsWrapper ts gl ≡ false) where
     other : (o n : Option ℕ) → bindingBase (innerAt ts (g .ty)) ≡ o → sizeFor rs (g .binding) ≡ n → pointerOf (pointerFormIn ts rs gl) ts gl x ≡ pointerOf (remappedForm o n) ts gl x
     other o n eo en =
         let u = unwrapped rs (bindingBase (innerAt ts (g .ty))) (g .binding) in
-        (λ j. pointerOf (pick (e j) wrapped (u j)) ts gl x) ∙ (λ j. pointerOf (remappedForm (eo j) (en j)) ts gl x)
+        (λ j. pointerOf (pick (e j) inWrapper (u j)) ts gl x) ∙ (λ j. pointerOf (remappedForm (eo j) (en j)) ts gl x)
 
     pub no-array : none ≡ bindingBase (innerAt ts (g .ty)) → pointerBy Direct g x ≡ pointerOf (pointerFormIn ts rs gl) ts gl x
     no-array eo = sym (other none (sizeFor rs (g .binding)) (sym eo) refl)

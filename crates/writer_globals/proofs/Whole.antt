@@ -13,16 +13,16 @@ use Rattle.definition.specs.Instructions.{name, variable}
 use Rattle.definition.specs.Sheet.{Record, TypeEntry, Remap, Global, Options, globalFields, global}
 use Rattle.definition.specs.Shapes.{storageClass}
 use Rattle.definition.specs.Tests.{Seen, valuesFit}
-use Rattle.definition.specs.State.{State, Got, takeId, declare}
+use Rattle.definition.specs.State.{State, Got, takeId, declareAlone}
 use Rattle.definition.specs.Rules.{labelIf, innerAt, accessOf, decorateAccess, decorateBinding, pointerOf, blockBase, bindingBase, initFor, declareGlobal}
 use Rattle.kinds.specs.Numbers.{spaceNumber, spaceAccess}
-use Rattle.entries.specs.Globals.{globalOf, constantOf, boundNumber, groupNumber, bindingNumber, Taken as Read}
+use Rattle.entries.specs.Globals.{globalOf, initConstant, boundNumber, groupNumber, bindingNumber, GlobalTaken as Read}
 use Rattle.entries.specs.declared.globals.Binding.{Binding}
 use Rattle.entries.specs.declared.globals.Binding.the-variants.{Unbound, Bound}
 use Rattle.entries.specs.declared.globals.GlobalVariable.{GlobalVariable}
 use Rattle.writer.specs.declared.Writer.{Writer}
 use Rattle.writer.specs.declared.Taken.{Taken}
-use Rattle.spirv.specs.Ids.{initOf}
+use Rattle.spirv.specs.Ids.{initializerOf}
 use Rattle.writer.specs.Regions.{declarations}
 use Rattle.writer.specs.Cost.{anId, naming, annotating, declaring, recordCost}
 use Rattle.writer.specs.Held.{Held, Room, RoomFor, Grown}
@@ -31,9 +31,9 @@ use Rattle.finding.specs.Costs.{nullCost}
 use Rattle.finding.proofs.Prices.{AtMost}
 use Rattle.writer_globals.specs.Costs.{pointerCost, globalCost}
 use Rattle.writer_globals.specs.Globals.{pointerBy, pointerFormIn, bindingDecorated, Initialised, GlobalKept}
-use Rattle.writer_globals.specs.Records.{globalIn, Tested}
+use Rattle.writer_globals.specs.Records.{globalIn, GlobalTested}
 use Rattle.writer_globals.specs.declared.pointers.PointerForm.{PointerForm}
-use Rattle.writer_globals.specs.declared.Inited.{Inited}
+use Rattle.writer_globals.specs.declared.TakenInit.{TakenInit}
 use Rattle.writer_globals.proofs.Rooms.{_▹_, grown-within, words-left, room-left, tail-still, tail-then}
 
 -- ---- room before each call
@@ -63,7 +63,7 @@ module _ (k : ℕ) {w : Writer} {T S : List ℕ} (room : Room (globalCost k) w T
 
 -- the binding as the definition writes it
 as-bound : (b : List ℕ) (g : GlobalVariable) (x : Binding) (id : ℕ) (s : State) → bindingDecorated x id s
-    ≡ decorateBinding (eqb (boundNumber x) 1) (record { name = nameAt b 0; type = g .ty; space = spaceNumber (g .space); access = spaceAccess (g .space); bound = boundNumber x; group = groupNumber x; binding = bindingNumber x; init = constantOf (g .init) }) id s
+    ≡ decorateBinding (eqb (boundNumber x) 1) (record { name = nameAt b 0; type = g .ty; space = spaceNumber (g .space); access = spaceAccess (g .space); bound = boundNumber x; group = groupNumber x; binding = bindingNumber x; init = initConstant (g .init) }) id s
 as-bound b g Unbound id s = refl
 as-bound b g (Bound r) id s = refl
 
@@ -73,8 +73,8 @@ module _ (o : Options) (b : List ℕ) (g : GlobalVariable) (s : State) where
   run id access bind point base null class =
       let a = bind id (decorateAccess access id (labelIf (o .debug) (name id) (nameAt b 0) (takeId s))) in
       let p = point a in
-      let z = initFor (constantOf (g .init)) null (g .ty) (blockBase (eqb (spaceNumber (g .space)) 4) base (p .state)) in
-      declare (variable (p .id) id class (z .init)) (z .state)
+      let z = initFor (initConstant (g .init)) null (g .ty) (blockBase (eqb (spaceNumber (g .space)) 4) base (p .state)) in
+      declareAlone (variable (p .id) id class (z .init)) (z .state)
 
   abbrev gl : Global
   gl = globalOf b g
@@ -103,9 +103,9 @@ pub declared : (o : Options) (ts : List TypeEntry) (rs : List Remap) (b : List �
     → {base : Option ℕ} → base ≡ bindingBase (innerAt ts (g .ty))
     → {v₅ : Writer} {T₅ S₅ : List ℕ} → Kept (annotating 3) (blockBase (eqb (spaceNumber (g .space)) 4) base) (p .writer) T₄ S₄ v₅ T₅ S₅
     → {null : Bool} → null ≡ (eqb (spaceNumber (g .space)) 1 || (eqb (spaceNumber (g .space)) 2 && o .zeroing))
-    → {z : Inited} {T₆ S₆ : List ℕ} → Initialised (initFor (constantOf (g .init)) null (g .ty)) v₅ T₅ S₅ z T₆ S₆
+    → {z : TakenInit} {T₆ S₆ : List ℕ} → Initialised (initFor (initConstant (g .init)) null (g .ty)) v₅ T₅ S₅ z T₆ S₆
     → {class : ℕ} → class ≡ storageClass (spaceNumber (g .space))
-    → {v₇ : Writer} {S₇ : List ℕ} → Puts declarations 5 (variable (p .id) (t .id) class (initOf (z .init))) (z .writer) S₆ v₇ S₇
+    → {v₇ : Writer} {S₇ : List ℕ} → Puts declarations 5 (variable (p .id) (t .id) class (initializerOf (z .init))) (z .writer) S₆ v₇ S₇
     → GlobalKept (globalCost (nameEnd b 0)) o ts rs (globalOf b g) w T S v₇ T₆ S₇
 declared o ts rs b g {w = w} {T = T} {S = S} {t = t} p₀ q₁ {a = a} ea q₂ q₃ y ey {p = p} q₄ {base = base} eb q₅ {null = null} en {z = z} {T₆ = T₆} {S₆ = S₆} q₆ {class = class} ec {v₇ = v₇} {S₇ = S₇} q₇ =
     let before = p₀ .grown ▹ q₁ .grown ▹ q₂ .grown ▹ q₃ .grown in
@@ -123,11 +123,11 @@ declared o ts rs b g {w = w} {T = T} {S = S} {t = t} p₀ q₁ {a = a} ea q₂ q
           let k = q₄ .gives s₃ h₃ in
           let s₅ = blockBase (eqb (spaceNumber (g .space)) 4) base (pointerBy y g s₃ .state) in
           let i = q₆ .gives s₅ (q₅ .held (pointerBy y g s₃ .state) (k .held)) in
-          let x = initFor (constantOf (g .init)) null (g .ty) s₅ in
+          let x = initFor (initConstant (g .init)) null (g .ty) s₅ in
           let e₃ = fun-ext (λ (n : ℕ). fun-ext (λ (u : State). as-bound b g (g .binding) n u)) in
           let e₄ = fun-ext ey in
           subst (Held v₇ T₆ S₇)
-          ((λ j. declare (variable (k .named j) id class (i .named j)) (x .state))
+          ((λ j. declareAlone (variable (k .named j) id class (i .named j)) (x .state))
           ∙ (λ j. run o b g s (ei j) (ea j) (e₃ j) (e₄ j) (eb j) (en j) (ec j))
           ∙ is-ruled o b g s d ts rs et er)
           (q₇ .held T₆ (x .state) (i .held));
@@ -135,7 +135,7 @@ declared o ts rs b g {w = w} {T = T} {S = S} {t = t} p₀ q₁ {a = a} ea q₂ q
 
 -- ---- of a record
 
-module _ {n : ℕ} (r : Record) (tested : Tested n r) {b : List ℕ} (eb : b ≡ r .body) where
+module _ {n : ℕ} (r : Record) (tested : GlobalTested n r) {b : List ℕ} (eb : b ≡ r .body) where
   -- what was taken from its body is its global
   pub as-read : (g : GlobalVariable) → Read b g → globalOf b g ≡ globalIn r
   as-read g t = t (subst (λ (x : List ℕ). valuesFit (global (globalFields x (nameEnd x 0) .value)) ≡ true) (sym eb) (tested .values)) ∙ ap (λ (x : List ℕ). globalFields x (nameEnd x 0) .value) eb

@@ -11,17 +11,17 @@ use Rattle.definition.specs.Numbers.{DecorationOffset, DecorationBinding, Decor
 use Rattle.definition.specs.Instructions.{decorate, memberDecorate, typeStruct, typePointer}
 use Rattle.definition.specs.Sheet.{TypeEntry, Remap, Global, Options, privateSpace, workGroupSpace}
 use Rattle.definition.specs.Shapes.{storageClass, pointer, bindingPointer, entry, shape}
-use Rattle.definition.specs.State.{State, Got, got, takeId, annotate, declare}
+use Rattle.definition.specs.State.{State, Got, got, takeId, annotate, declareAlone}
 use Rattle.definition.specs.Tests.{Seen}
 use Rattle.definition.specs.Finding.{find}
-use Rattle.definition.specs.Rules.{GotInit, block, strideMember, needsWrapper, isBound, bindingBase, remapOf, innerAt, accessOf, pointerOf, remappedForm, direct, wrapped, declareGlobal}
+use Rattle.definition.specs.Rules.{GotInit, block, strideMember, needsWrapper, isBound, bindingBase, remapOf, innerAt, accessOf, pointerOf, remappedForm, direct, inWrapper, declareGlobal}
 use Rattle.definition.specs.Rules as Defined
 use Rattle.kinds.specs.Numbers.{spaceNumber, spaceAccess}
 use Rattle.entries.specs.Globals.{globalOf}
 use Rattle.entries.specs.declared.globals.Binding.{Binding}
 use Rattle.entries.specs.declared.globals.Binding.the-variants.{Unbound, Bound}
 use Rattle.entries.specs.declared.globals.GlobalVariable.{GlobalVariable}
-use Rattle.spirv.specs.Ids.{initOf}
+use Rattle.spirv.specs.Ids.{initializerOf}
 use Rattle.type_facts.specs.Facets.{numberOf, byteOf, indexOf}
 use Rattle.writer.specs.declared.Writer.{Writer}
 use Rattle.writer.specs.Cost.{Cost}
@@ -30,7 +30,7 @@ use Rattle.writer.specs.Steps.{Tail}
 use Rattle.finding.specs.Costs.{nullCost}
 use Rattle.writer_globals.specs.declared.pointers.PointerForm.{PointerForm}
 use Rattle.writer_globals.specs.declared.pointers.PointerForm.the-variants.{Direct, Wrapped, Remapped}
-use Rattle.writer_globals.specs.declared.Inited.{Inited}
+use Rattle.writer_globals.specs.declared.TakenInit.{TakenInit}
 use Rattle.writer_globals.specs.declared.Plan.{Plan}
 use Rattle.writer_globals.specs.Costs.{globalCost}
 
@@ -41,8 +41,8 @@ abbrev pub wrapIn : Option ℕ → ℕ → ℕ → State → Got
 wrapIn o t class s =
     let w = suc (s .last) in
     let g = find (entry t) (strideMember o w 0 (annotate (memberDecorate w 0 DecorationOffset (0 ∷ [])) (annotate (block w) (takeId s)))) in
-    let u = declare (typeStruct w (g .id ∷ [])) (g .state) in
-    got (suc (u .last)) (declare (typePointer (suc (u .last)) class w) (takeId u))
+    let u = declareAlone (typeStruct w (g .id ∷ [])) (g .state) in
+    got (suc (u .last)) (declareAlone (typePointer (suc (u .last)) class w) (takeId u))
 
 -- the pointer of a global, by its form
 abbrev pub pointerBy : PointerForm → GlobalVariable → State → Got
@@ -58,7 +58,7 @@ sizeFor rs (Bound r) = remapOf rs (r .group) (r .binding)
 -- the definition's form, by the types and the remaps alone
 abbrev pub pointerFormIn : List TypeEntry → List Remap → Global → Defined.PointerForm
 pointerFormIn ts rs g =
-    pick (needsWrapper ts g) wrapped
+    pick (needsWrapper ts g) inWrapper
     (pick (isBound g) (remappedForm (bindingBase (innerAt ts (g .type))) (remapOf rs (g .group) (g .binding))) direct)
 
 -- ---- decorations
@@ -71,12 +71,12 @@ bindingDecorated (Bound r) id s = annotate (decorate id DecorationBinding (r .bi
 -- ---- the init
 
 -- the init, and the state in which it is declared, are held
-pub record InitGiven (g : GotInit) (r : Inited) (T S : List ℕ) : Type 0 where
-  pub named : initOf (r .init) ≡ g .init
+pub record InitGiven (g : GotInit) (r : TakenInit) (T S : List ℕ) : Type 0 where
+  pub named : initializerOf (r .init) ≡ g .init
   pub held : Held (r .writer) T S (g .state)
 
 -- an init is come by
-pub record Initialised (f : State → GotInit) (w : Writer) (T S : List ℕ) (r : Inited) (T′ S′ : List ℕ) : Type 0 where
+pub record Initialised (f : State → GotInit) (w : Writer) (T S : List ℕ) (r : TakenInit) (T′ S′ : List ℕ) : Type 0 where
   pub grown : Grown nullCost w (r .writer)
   pub tail : Tail w T (r .writer) T′
   pub gives : (s : State) → Held w T S s → InitGiven (f s) r T′ S′

@@ -12,7 +12,7 @@ abbrev pub globalIn : Record → Global
 globalIn r = globalFields (r .body) (nameEnd (r .body) 0) .value
 
 -- the record is whole, its values fit, and its type is one of the first n
-pub record Tested (n : ℕ) (r : Record) : Type 0 where
+pub record GlobalTested (n : ℕ) (r : Record) : Type 0 where
   pub whole : globalFields (r .body) (nameEnd (r .body) 0) .end ≡ length (r .body)
   pub values : valuesFit (global (globalIn r)) ≡ true
   pub type : globalIn r .type < n

@@ -42,23 +42,23 @@ fn decorate_if(sections: &mut [u32], w: Writer, there: bool, id: u64, decoration
 }
 
 // The access of a global: of its space if that is Storage, else of its type if that is a storage image.
-pub fn access_of(s: &[u8], types: &[u32], n: usize, g: GlobalVariable) -> Access
-    requires { ⌜ n ≤ length (now types) ⌝ }
-    ensures { λ r. ⌜ ((b : List ℕ) → byteOf r ≡ accessOf (typesFrom (now (s .entry)) (now (types .entry)) n) (globalOf b g)) ⌝ }
+pub fn access_of(sheet: &[u8], types: &[u32], ntypes: usize, global: GlobalVariable) -> Access
+    requires { ⌜ ntypes ≤ length (now types) ⌝ }
+    ensures { λ r. ⌜ ((b : List ℕ) → byteOf r ≡ accessOf (typesFrom (now (sheet .entry)) (now (types .entry)) ntypes) (globalOf b global)) ⌝ }
 {
-    let space = g.space;
+    let space = global.space;
     let AddressSpace::Storage { access } = space else {
-        return type_facts::image_access(s, types, n, g.ty as usize);
+        return type_facts::image_access(sheet, types, ntypes, global.ty as usize);
     };
     Access::Of(access)
 }
 
 // Bit 0 of an access is load, bit 1 store.
-pub fn decorate_access(sections: &mut [u32], w: Writer, id: u64, a: Access) -> Writer
+pub fn decorate_access(sections: &mut [u32], w: Writer, id: u64, access: Access) -> Writer
     requires { ⌜ RoomFor (annotating 6) w (now sections) ⌝ }
-    ensures { λ r. ⌜ Added (annotating 6) (decorateAccess (byteOf a) id) w (now (sections .entry)) r (now (sections .exit)) ⌝ }
+    ensures { λ r. ⌜ Added (annotating 6) (decorateAccess (byteOf access) id) w (now (sections .entry)) r (now (sections .exit)) ⌝ }
 {
-    match a {
+    match access {
         Access::Nothing => w,
         Access::Of(x) => {
             let v = decorate_if(sections, w, x % 2 == 0, id, DECORATION_NON_READABLE);
@@ -81,18 +81,18 @@ pub fn decorate_binding(sections: &mut [u32], w: Writer, id: u64, binding: Bindi
 }
 
 // The name that stands at the front of the body b.
-pub fn name_global(sections: &mut [u32], w: Writer, debug: bool, id: u64, b: &[u8]) -> Writer
-    requires { ⌜ RoomFor (naming (nameEnd (now b) 0 + 2)) w (now sections) ⌝ }
-    ensures { λ r. ⌜ Added (naming (nameEnd (now (b .entry)) 0 + 2)) (labelIf debug (name id) (nameAt (now (b .entry)) 0)) w (now (sections .entry)) r (now (sections .exit)) ⌝ }
+pub fn name_global(sections: &mut [u32], w: Writer, debug: bool, id: u64, body: &[u8]) -> Writer
+    requires { ⌜ RoomFor (naming (nameEnd (now body) 0 + 2)) w (now sections) ⌝ }
+    ensures { λ r. ⌜ Added (naming (nameEnd (now (body .entry)) 0 + 2)) (labelIf debug (name id) (nameAt (now (body .entry)) 0)) w (now (sections .entry)) r (now (sections .exit)) ⌝ }
 {
     if !debug {
         return w;
     }
-    let k = fields::u8_at(b, 0);
+    let k = fields::u8_at(body, 0);
     if k == 255 {
         return w;
     }
-    writer::label(sections, w, id, fields::part(b, 1, k as usize))
+    writer::label(sections, w, id, fields::part(body, 1, k as usize))
 }
 
 // A Storage global is never wrapped where its type is a binding array: Block goes on the base, once for each such global.

@@ -18,11 +18,11 @@ ghost use Rattle.definition.specs.Unfit.{initFits};
 ghost use Rattle.kinds.specs.Numbers.{spaceNumber};
 ghost use Rattle.records.specs.Places.{typesFrom};
 ghost use Rattle.zeroable.specs.Memo.{Memo};
-ghost use Rattle.entries.specs.Globals.{globalOf, constantOf, boundNumber};
-ghost use Rattle.writer.specs.Cost.{nothing};
+ghost use Rattle.entries.specs.Globals.{globalOf, initConstant, boundNumber};
+ghost use Rattle.writer.specs.Cost.{noCost};
 ghost use Rattle.writer.specs.Held.{Held, RoomIn};
-ghost use Rattle.writer_globals.specs.Records.{globalIn, Tested};
-ghost use Rattle.writer_globals.specs.Fitness.{Judged};
+ghost use Rattle.writer_globals.specs.Records.{globalIn, GlobalTested};
+ghost use Rattle.writer_globals.specs.Fitness.{TestsGlobal};
 
 // Whether a space may hold bound globals.
 fn may_be_bound(space: AddressSpace) -> bool
@@ -40,7 +40,7 @@ fn may_be_bound(space: AddressSpace) -> bool
 }
 
 // A bound global is Uniform, Storage or Handle.
-fn binding_fits(binding: Binding, space: AddressSpace) -> bool
+fn may_be_bound(binding: Binding, space: AddressSpace) -> bool
     ensures { λ r. ⌜ r ≡ (not (eqb (boundNumber binding) 1) || among (spaceNumber space) (uniformSpace ∷ storageSpace ∷ handleSpace ∷ [])) ⌝ }
 {
     match binding {
@@ -66,8 +66,8 @@ fn is_zeroed(space: AddressSpace) -> bool
 
 // An init is of a Private global, and of its type's id.
 fn init_fits(tables: &[u64], w: Writer, init: Init, space: AddressSpace, ty: u16) -> bool
-    requires { ⌜ RoomIn nothing w (now tables) ⌝ }
-    ensures { λ r. ⌜ ((S : List ℕ) (s : State) → Held w (now (tables .entry)) S s → (g : Global) → g .space ≡ spaceNumber space → g .type ≡ ty → r ≡ initFits s g (constantOf init)) ⌝ }
+    requires { ⌜ RoomIn noCost w (now tables) ⌝ }
+    ensures { λ r. ⌜ ((S : List ℕ) (s : State) → Held w (now (tables .entry)) S s → (g : Global) → g .space ≡ spaceNumber space → g .type ≡ ty → r ≡ initFits s g (initConstant init)) ⌝ }
 {
     match init {
         Init::Missing => true,
@@ -92,8 +92,8 @@ fn variable_fits(
     memo: &mut [u8],
     g: GlobalVariable,
 ) -> bool
-    requires { ⌜ (n ≤ length (now types)) × (g .ty < n) × RoomIn nothing w (now tables) × Memo (typesFrom (now s) (now types) n) (now memo) ⌝ }
-    ensures { λ r. ⌜ ((b : List ℕ) → Judged (typesFrom (now (s .entry)) (now (types .entry)) n) (globalOf b g) w (now (tables .entry)) r (now (memo .exit))) ⌝ }
+    requires { ⌜ (n ≤ length (now types)) × (g .ty < n) × RoomIn noCost w (now tables) × Memo (typesFrom (now s) (now types) n) (now memo) ⌝ }
+    ensures { λ r. ⌜ ((b : List ℕ) → TestsGlobal (typesFrom (now (s .entry)) (now (types .entry)) n) (globalOf b g) w (now (tables .entry)) r (now (memo .exit))) ⌝ }
 {
     let space = g.space;
     let binding = g.binding;
@@ -104,7 +104,7 @@ fn variable_fits(
     if type_facts::is_pointer(s, types, n, g.ty as usize) {
         return false;
     }
-    if !binding_fits(binding, space) {
+    if !may_be_bound(binding, space) {
         return false;
     }
     if !init_fits(tables, w, init, space, g.ty) {
@@ -120,15 +120,15 @@ fn variable_fits(
 pub fn global_fits(
     tables: &[u64],
     w: Writer,
-    s: &[u8],
+    sheet: &[u8],
     types: &[u32],
-    n: usize,
+    ntypes: usize,
     memo: &mut [u8],
     rest: &[u8],
 ) -> bool
-    requires { ⌜ (n ≤ length (now types)) × Tested n (recordAt (now rest)) × RoomIn nothing w (now tables) × Memo (typesFrom (now s) (now types) n) (now memo) ⌝ }
-    ensures { λ r. ⌜ Judged (typesFrom (now (s .entry)) (now (types .entry)) n) (globalIn (recordAt (now (rest .entry)))) w (now (tables .entry)) r (now (memo .exit)) ⌝ }
+    requires { ⌜ (ntypes ≤ length (now types)) × GlobalTested ntypes (recordAt (now rest)) × RoomIn noCost w (now tables) × Memo (typesFrom (now sheet) (now types) ntypes) (now memo) ⌝ }
+    ensures { λ r. ⌜ TestsGlobal (typesFrom (now (sheet .entry)) (now (types .entry)) ntypes) (globalIn (recordAt (now (rest .entry)))) w (now (tables .entry)) r (now (memo .exit)) ⌝ }
 {
     let g = entries::globals::global_of(records::body_of(rest));
-    variable_fits(tables, w, s, types, n, memo, g)
+    variable_fits(tables, w, sheet, types, ntypes, memo, g)
 }

@@ -36,16 +36,16 @@ ghost use Rattle.definition.specs.Rules.{initFor};
 ghost use Rattle.kinds.specs.Numbers.{spaceNumber};
 ghost use Rattle.records.specs.Flags.{optionsFrom};
 ghost use Rattle.records.specs.Places.{remapFrom, typesFrom};
-ghost use Rattle.entries.specs.Globals.{constantOf};
+ghost use Rattle.entries.specs.Globals.{initConstant};
 ghost use Rattle.writer.specs.Cost.{recordCost};
 ghost use Rattle.writer.specs.Held.{Room};
 ghost use Rattle.finding.specs.Costs.{nullCost};
 ghost use Rattle.writer_globals.specs.Costs.{globalCost};
 ghost use Rattle.writer_globals.specs.Globals.{Initialised, Planned, GlobalKept, WrittenBy};
-ghost use Rattle.writer_globals.specs.Records.{globalIn, Tested};
+ghost use Rattle.writer_globals.specs.Records.{globalIn, GlobalTested};
 
 // The id of a global's init, if it has one.
-pub struct Inited {
+pub struct TakenInit {
     pub init: Initializer,
     pub writer: Writer,
 }
@@ -74,29 +74,29 @@ fn write_init(
     init: Init,
     null: bool,
     ty: u16,
-) -> Inited
+) -> TakenInit
     requires { ⌜ Room nullCost w (now tables) (now sections) ⌝ }
-    ensures { λ r. ⌜ Initialised (initFor (constantOf init) null ty) w (now (tables .entry)) (now (sections .entry)) r (now (tables .exit)) (now (sections .exit)) ⌝ }
+    ensures { λ r. ⌜ Initialised (initFor (initConstant init) null ty) w (now (tables .entry)) (now (sections .entry)) r (now (tables .exit)) (now (sections .exit)) ⌝ }
 {
     match init {
         Init::Constant(c) => {
             let x = writer::value_at(tables, w, c as usize);
-            Inited {
+            TakenInit {
                 init: Initializer::Id(x.id),
                 writer: w,
             }
         }
         Init::Missing => {
             if !null {
-                return Inited {
+                return TakenInit {
                     init: Initializer::Nothing,
                     writer: w,
                 };
             }
             let x = finding::type_id(tables, w, LookupType::Handle(ty));
-            let z = finding::write_constant_null(tables, sections, w, x);
+            let z = finding::get_constant_null(tables, sections, w, x);
             let v = z.writer;
-            Inited {
+            TakenInit {
                 init: Initializer::Id(z.id),
                 writer: v,
             }
@@ -181,18 +181,26 @@ pub fn write_global(
     tables: &mut [u64],
     sections: &mut [u32],
     w: Writer,
-    s: &[u8],
+    sheet: &[u8],
     types: &[u32],
     remaps: &[u32],
-    k: Counts,
+    counts: Counts,
     rest: &[u8],
     options: Options,
 ) -> Writer
-    requires { ⌜ (k .types ≤ length (now types)) × (k .remaps ≤ length (now remaps)) × Tested (k .types) (recordAt (now rest)) × Room (recordCost (length (recordAt (now rest) .body) + 3)) w (now tables) (now sections) ⌝ }
-    ensures { λ r. ⌜ GlobalKept (recordCost (length (recordAt (now (rest .entry)) .body) + 3)) (optionsFrom options) (typesFrom (now (s .entry)) (now (types .entry)) (k .types)) (map (remapFrom (now (s .entry))) (take (k .remaps) (now (remaps .entry)))) (globalIn (recordAt (now (rest .entry)))) w (now (tables .entry)) (now (sections .entry)) r (now (tables .exit)) (now (sections .exit)) ⌝ }
+    requires { ⌜ (counts .types ≤ length (now types)) × (counts .remaps ≤ length (now remaps)) × GlobalTested (counts .types) (recordAt (now rest)) × Room (recordCost (length (recordAt (now rest) .body) + 3)) w (now tables) (now sections) ⌝ }
+    ensures { λ r. ⌜ GlobalKept (recordCost (length (recordAt (now (rest .entry)) .body) + 3)) (optionsFrom options) (typesFrom (now (sheet .entry)) (now (types .entry)) (counts .types)) (map (remapFrom (now (sheet .entry))) (take (counts .remaps) (now (remaps .entry)))) (globalIn (recordAt (now (rest .entry)))) w (now (tables .entry)) (now (sections .entry)) r (now (tables .exit)) (now (sections .exit)) ⌝ }
 {
     let b = records::body_of(rest);
     let g = entries::globals::global_of(b);
-    let plan = plan_of(s, types, k.types, remaps, k.remaps, g, options.zeroing);
+    let plan = plan_of(
+        sheet,
+        types,
+        counts.types,
+        remaps,
+        counts.remaps,
+        g,
+        options.zeroing,
+    );
     write_global_variable(tables, sections, w, b, g, plan, options.debug)
 }

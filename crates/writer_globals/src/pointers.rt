@@ -70,32 +70,32 @@ fn remapped_size(s: &[u8], remaps: &[u32], m: usize, binding: Binding) -> Number
 {
     match binding {
         Binding::Unbound => Number::Nothing,
-        Binding::Bound(r) => type_facts::remap_of(s, remaps, m, r.group, r.binding),
+        Binding::Bound(r) => type_facts::remapped_size_of(s, remaps, m, r.group, r.binding),
     }
 }
 
 // The form of a global's pointer, given the first n types and the first m remaps.
 pub fn pointer_form_of(
-    s: &[u8],
+    sheet: &[u8],
     types: &[u32],
-    n: usize,
+    ntypes: usize,
     remaps: &[u32],
-    m: usize,
-    g: GlobalVariable,
+    nremaps: usize,
+    global: GlobalVariable,
 ) -> PointerForm
-    requires { ⌜ (n ≤ length (now types)) × (m ≤ length (now remaps)) ⌝ }
-    ensures { λ r. ⌜ ((b : List ℕ) (x : State) → pointerBy r g x ≡ pointerOf (pointerFormIn (typesFrom (now (s .entry)) (now (types .entry)) n) (map (remapFrom (now (s .entry))) (take m (now (remaps .entry)))) (globalOf b g)) (typesFrom (now (s .entry)) (now (types .entry)) n) (globalOf b g) x) ⌝ }
+    requires { ⌜ (ntypes ≤ length (now types)) × (nremaps ≤ length (now remaps)) ⌝ }
+    ensures { λ r. ⌜ ((b : List ℕ) (x : State) → pointerBy r global x ≡ pointerOf (pointerFormIn (typesFrom (now (sheet .entry)) (now (types .entry)) ntypes) (map (remapFrom (now (sheet .entry))) (take nremaps (now (remaps .entry)))) (globalOf b global)) (typesFrom (now (sheet .entry)) (now (types .entry)) ntypes) (globalOf b global) x) ⌝ }
 {
-    let ty = g.ty as usize;
-    let space = g.space;
-    let binding = g.binding;
-    if type_facts::global_needs_wrapper(s, types, n, ty, space) {
-        let stride = type_facts::element_stride(s, types, n, ty);
+    let ty = global.ty as usize;
+    let space = global.space;
+    let binding = global.binding;
+    if type_facts::global_needs_wrapper(sheet, types, ntypes, ty, space) {
+        let stride = type_facts::element_stride(sheet, types, ntypes, ty);
         return PointerForm::Wrapped { stride };
     }
-    match type_facts::binding_base(s, types, n, ty) {
+    match type_facts::binding_base(sheet, types, ntypes, ty) {
         Base::Nothing => PointerForm::Direct,
-        Base::Of(base) => match remapped_size(s, remaps, m, binding) {
+        Base::Of(base) => match remapped_size(sheet, remaps, nremaps, binding) {
             Number::Nothing => PointerForm::Direct,
             Number::Of(size) => PointerForm::Remapped { base, size },
         },
@@ -109,13 +109,13 @@ pub fn write_pointer(
     sections: &mut [u32],
     w: Writer,
     form: PointerForm,
-    g: GlobalVariable,
+    global: GlobalVariable,
 ) -> Taken
     requires { ⌜ Room pointerCost w (now tables) (now sections) ⌝ }
-    ensures { λ r. ⌜ GotBy pointerCost (pointerBy form g) w (now (tables .entry)) (now (sections .entry)) r (now (tables .exit)) (now (sections .exit)) ⌝ }
+    ensures { λ r. ⌜ GotBy pointerCost (pointerBy form global) w (now (tables .entry)) (now (sections .entry)) r (now (tables .exit)) (now (sections .exit)) ⌝ }
 {
-    let ty = g.ty;
-    let space = g.space;
+    let ty = global.ty;
+    let space = global.space;
     let class = map_storage_class(space);
     match form {
         PointerForm::Direct => {

@@ -47,16 +47,16 @@ pub fn decorate_struct_member(
     sections: &mut [u32],
     w: Writer,
     id: u64,
-    i: u32,
+    index: u32,
     offset: u32,
     named: bool,
     name: &[u8],
     stride: Number,
 ) -> Writer
     requires { ⌜ (length (now name) < 256) × RoomFor (memberCost named (now name)) w (now sections) ⌝ }
-    ensures { λ r. ⌜ Added (memberCost named (now (name .entry))) (memberDecorated id i offset named (now (name .entry)) (numberOf stride)) w (now (sections .entry)) r (now (sections .exit)) ⌝ }
+    ensures { λ r. ⌜ Added (memberCost named (now (name .entry))) (memberDecorated id index offset named (now (name .entry)) (numberOf stride)) w (now (sections .entry)) r (now (sections .exit)) ⌝ }
 {
-    let a = sections::member_decorate(sections, w, id, i, DECORATION_OFFSET, &[offset]);
-    let v = name_member(sections, a, id, i, named, name);
-    stride_member(sections, v, id, i, stride)
+    let a = sections::member_decorate(sections, w, id, index, DECORATION_OFFSET, &[offset]);
+    let v = name_member(sections, a, id, index, named, name);
+    stride_member(sections, v, id, index, stride)
 }

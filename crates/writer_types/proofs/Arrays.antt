@@ -8,7 +8,7 @@ use Rattle.definition.specs.Literals.{u32}
 use Rattle.definition.specs.Numbers.{DecorationArrayStride}
 use Rattle.definition.specs.Instructions.{decorate, typeArray, typeRuntimeArray}
 use Rattle.definition.specs.Shapes.{entry}
-use Rattle.definition.specs.State.{Got, declare}
+use Rattle.definition.specs.State.{Got, declareAlone}
 use Rattle.definition.specs.Finding.{find, literal}
 use Rattle.definition.specs.Rules.{declareArray}
 use Rattle.writer.specs.declared.Writer.{Writer}
@@ -30,7 +30,7 @@ module _ (base size id : ℕ) (w : Writer) (T S : List ℕ) (f : Taken) (T₂ S�
         held = λ s h.
             let g = q .gives s h in
             let b = find (entry base) s in
-            subst (Held v T₂ S₃) ((λ j. declare (typeRuntimeArray id (g .named j)) (b .state)) ∙ sym (ap (λ (n : ℕ). declareArray n id b) z))
+            subst (Held v T₂ S₃) ((λ j. declareAlone (typeRuntimeArray id (g .named j)) (b .state)) ∙ sym (ap (λ (n : ℕ). declareArray n id b) z))
             (d .held T₂ (b .state) (g .held));
       }
 
@@ -46,11 +46,11 @@ module _ (base size id : ℕ) (w : Writer) (T S : List ℕ) (f : Taken) (T₂ S�
             let b = find (entry base) s in
             let k = r .gives (b .state) (g .held) in
             let l = literal (u32 size) (b .state) in
-            subst (Held v T₃ S₄) ((λ j. declare (typeArray id (g .named j) (k .named j)) (l .state)) ∙ sym (by size nz b))
+            subst (Held v T₃ S₄) ((λ j. declareAlone (typeArray id (g .named j) (k .named j)) (l .state)) ∙ sym (by size nz b))
             (d .held T₃ (l .state) (k .held));
       }
     where
-      by : (n : ℕ) → (n ≡ 0 → ⊥) → (b : Got) → declareArray n id b ≡ declare (typeArray id (b .id) (literal (u32 n) (b .state) .id)) (literal (u32 n) (b .state) .state)
+      by : (n : ℕ) → (n ≡ 0 → ⊥) → (b : Got) → declareArray n id b ≡ declareAlone (typeArray id (b .id) (literal (u32 n) (b .state) .id)) (literal (u32 n) (b .state) .state)
       by zero nz b = absurd (nz refl)
       by (suc n) nz b = refl
 

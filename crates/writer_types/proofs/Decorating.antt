@@ -27,7 +27,7 @@ use Rattle.writer.specs.Steps.{Kept, Puts, Added}
 use Rattle.writer_members.specs.Members.{nameCost, memberDecorated}
 use Rattle.writer_members.specs.Members as Shared
 use Rattle.writer_types.specs.Members.{memberAt, decorated, StructPut}
-use Rattle.writer_types.specs.Costs.{nameLength, memberCost, weight, membersCost, structCost}
+use Rattle.writer_types.specs.Costs.{nameLength, namedMemberCost, weight, membersCost, structCost}
 use Rattle.writer_types.proofs.Walking.{members-length, split, none-left, weight-split}
 use Rattle.writer_types.proofs.Named.{still, name-short}
 use Rattle.writer_types.proofs.Passes.{as-defined}
@@ -45,13 +45,13 @@ same-name true none write s = refl
 same-name true (some bs) write s = refl
 
 module _ (b : List ℕ) (p : ℕ) (r : Bool) {bs : List ℕ} (eb : bs ≡ orElse [] (nameAt b (p + 6))) {w : Writer} {S : List ℕ} where
-  pub member-room : getD b (p + 6) 0 < 256 → RoomFor (memberCost (nameAt b (p + 6))) w S → (length bs < 256) × RoomFor (Shared.memberCost r bs) w S
+  pub member-room : getD b (p + 6) 0 < 256 → RoomFor (namedMemberCost (nameAt b (p + 6))) w S → (length bs < 256) × RoomFor (Shared.memberCost r bs) w S
   member-room h room = let l = ap length eb in (omega (arith, l, name-short b (p + 6) h), omega (arith, l, cost-few r bs, room))
 
   pub member : (debug : Bool) (ts : List TypeEntry) (id i : ℕ) {offset : ℕ} → offset ≡ u32At b (p + 2) → r ≡ (debug && present (nameAt b (p + 6)))
       → {ty : ℕ} → ty ≡ u16At b p → (x : Number) → numberOf x ≡ matrixStride (elementOf ts (innerAt ts ty))
       → {v : Writer} {S₁ : List ℕ} → Added (Shared.memberCost r bs) (memberDecorated id i offset r bs (numberOf x)) w S v S₁
-      → Added (memberCost (nameAt b (p + 6))) (decorateMember debug ts id i (memberAt b p)) w S v S₁
+      → Added (namedMemberCost (nameAt b (p + 6))) (decorateMember debug ts id i (memberAt b p)) w S v S₁
   member debug ts id i eo er et x ex {v = v} {S₁ = S₁} m =
       record {
         grown = omega (arith, m .grown, cost-few r bs, ap length eb);
@@ -98,7 +98,7 @@ module _ (debug : Bool) (ts : List TypeEntry) (b : List ℕ) (id first n : ℕ) 
     pub room-left : 0 < k → g .used + 7 + nameLength (nameAt b (p + 6)) ≤ weight (membersAt b first n)
     room-left h = omega (arith, weight-split b p k h (nameEnd b (p + 6)) refl, g .left)
 
-    pub on : 0 < k → (q : ℕ) → q ≡ nameEnd b (p + 6) → q ≤ p + 6 + 255 → (u : Writer) (S₂ : List ℕ) → Added (memberCost (nameAt b (p + 6))) (decorateMember debug ts id i (memberAt b p)) v S₁ u S₂
+    pub on : 0 < k → (q : ℕ) → q ≡ nameEnd b (p + 6) → q ≤ p + 6 + 255 → (u : Writer) (S₂ : List ℕ) → Added (namedMemberCost (nameAt b (p + 6))) (decorateMember debug ts id i (memberAt b p)) v S₁ u S₂
         → length S₂ ≡ length S₁ → Going debug ts b id first n w S u S₂ q (k - 1) (i + 1)
     unfolding decorated
     on h q eq hq u S₂ d l =

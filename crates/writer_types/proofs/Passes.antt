@@ -11,7 +11,7 @@ use Rattle.definition.specs.Instructions.{Instruction, memberName, memberDecora
 use Rattle.definition.specs.Numbers.{DecorationOffset}
 use Rattle.definition.specs.Sheet.{Member, TypeEntry}
 use Rattle.definition.specs.Shapes.{Key, sameKey, entry}
-use Rattle.definition.specs.State.{State, Got, got, lookup, idOf, annotate, declare}
+use Rattle.definition.specs.State.{State, Got, got, lookup, idOf, annotate, declareAlone}
 use Rattle.definition.specs.Finding.{find, findAt, orNewKey}
 use Rattle.definition.specs.Rules.{GotAll, declareMembers, declareStruct, decorateMember, strideMember, labelIf, matrixStride, elementOf, innerAt, anyDynamic, annotateIf, block}
 use Rattle.finding.proofs.Entries.{entry-found}
@@ -64,5 +64,5 @@ module _ (debug : Bool) (ts : List TypeEntry) (id : ℕ) where
   as-defined ms s =
       let t = decorated debug ts id 0 ms s in
       let u = annotateIf (anyDynamic ts ms) (block id) t in
-      ap (λ (l : List ℕ). declare (typeStruct id l) u) (ids-alike ms u s (annotate-types (anyDynamic ts ms) (block id) t ∙ decorated-types 0 ms s))
-      ∙ ap (λ (x : GotAll). declare (typeStruct id (x .ids)) (annotateIf (anyDynamic ts ms) (block id) (x .state))) (sym (two-passes 0 ms s))
+      ap (λ (l : List ℕ). declareAlone (typeStruct id l) u) (ids-alike ms u s (annotate-types (anyDynamic ts ms) (block id) t ∙ decorated-types 0 ms s))
+      ∙ ap (λ (x : GotAll). declareAlone (typeStruct id (x .ids)) (annotateIf (anyDynamic ts ms) (block id) (x .state))) (sym (two-passes 0 ms s))

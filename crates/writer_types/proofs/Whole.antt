@@ -16,17 +16,17 @@ use Rattle.definition.specs.Shapes.{Shape, shapeOf, entry, shape}
 use Rattle.definition.specs.State.{State, takeId, enter}
 use Rattle.definition.specs.Finding.{find}
 use Rattle.definition.specs.Rules.{declareAggregate, declareInner, declareType, declareStruct, labelIf}
-use Rattle.records.specs.Places.{typeOf}
+use Rattle.records.specs.Places.{typeOfRecord}
 use Rattle.entries.specs.declared.types.TypeInner as Program
 use Rattle.lookup.specs.declared.LocalType.{LocalType}
-use Rattle.lookup.specs.Local.{shapeOf as localShape}
-use Rattle.locals.specs.declared.Made.{Made}
-use Rattle.locals.specs.declared.Made.the-variants.{Local, Aggregate}
+use Rattle.lookup.specs.Local.{localShape as localShape}
+use Rattle.locals.specs.declared.MaybeLocal.{MaybeLocal}
+use Rattle.locals.specs.declared.MaybeLocal.the-variants.{Local, Aggregate}
 use Rattle.locals.specs.Made.{madeOf}
-use Rattle.lookup.specs.Packed.{packed, Small}
+use Rattle.lookup.specs.Packed.{packedKey, Small}
 use Rattle.writer.specs.declared.Writer.{Writer}
 use Rattle.writer.specs.declared.Taken.{Taken}
-use Rattle.writer.specs.Cost.{naming, nothing, recordCost}
+use Rattle.writer.specs.Cost.{naming, noCost, recordCost}
 use Rattle.writer.specs.Held.{Held, Room}
 use Rattle.writer.specs.Steps.{Kept, GotBy, Took, EnteredType, Added}
 use Rattle.finding.specs.Costs.{costOf}
@@ -34,13 +34,13 @@ use Rattle.finding.proofs.Prices.{AtMost}
 use Rattle.finding.proofs.Ways.{taken}
 use Rattle.writer_types.specs.Inner.{innerIn, innerDeclared}
 use Rattle.writer_types.specs.Costs.{nameLength, structCost, aggregateCost, shapedCost, innerCost}
-use Rattle.writer_types.specs.Tested.{Tested}
+use Rattle.writer_types.specs.Tested.{TypeTested}
 use Rattle.writer_types.proofs.Bytes.{entryCost, type-bytes}
 
 -- ---- an aggregate
 
 -- what has a shape is none, and nothing is written
-pub same : (w : Writer) (T S : List ℕ) → Kept nothing (λ s. s) w T S w T S
+pub same : (w : Writer) (T S : List ℕ) → Kept noCost (λ s. s) w T S w T S
 same w T S = record { grown = omega arith; tail = record { parts = omega arith; ids = λ j l. refl }; held = λ s h. h }
 
 -- the room of the case that was matched
@@ -58,7 +58,7 @@ module _ (b : List ℕ) (first p c : ℕ) (e : first ≡ p) (w : Writer) (T S : 
 
 -- ---- a shape or an aggregate: m is what the program makes of the entry
 
-module _ (i : TypeInner) (m : Made) (em : madeOf m ≡ shapeOf i) (w : Writer) (T S : List ℕ) where
+module _ (i : TypeInner) (m : MaybeLocal) (em : madeOf m ≡ shapeOf i) (w : Writer) (T S : List ℕ) where
   module _ (l : LocalType) (el : m ≡ Local l) where
     pub shape-room : Room (innerCost i) w T S → Room (costOf (shape (localShape l))) w T S
     shape-room r = subst (λ (o : Option Shape). Room (shapedCost o i) w T S) (sym em ∙ ap madeOf el) r
@@ -84,9 +84,9 @@ module _ (i : TypeInner) (m : Made) (em : madeOf m ≡ shapeOf i) (w : Writer) (
 
 -- ---- the record that was read
 
-module _ (r : Record) (h : Tested r) (t : ℕ) (b : List ℕ) (et : t ≡ r .tag) (eb : b ≡ r .body) (i : TypeInner)
+module _ (r : Record) (h : TypeTested r) (t : ℕ) (b : List ℕ) (et : t ≡ r .tag) (eb : b ≡ r .body) (i : TypeInner)
     (told : innerFits (typeFields t b (nameEnd b 0) .value) ≡ true → i ≡ typeFields t b (nameEnd b 0) .value) where
-  inner-is : i ≡ typeOf r .inner
+  inner-is : i ≡ typeOfRecord r .inner
   inner-is = told (rw (et, eb) (h .values)) ∙ (λ j. typeFields (et j) (eb j) (nameEnd (eb j) 0) .value)
 
   pub enough : AtMost (entryCost i (nameLength (nameAt b 0))) (recordCost (length (r .body) + 3))
@@ -94,9 +94,9 @@ module _ (r : Record) (h : Tested r) (t : ℕ) (b : List ℕ) (et : t ≡ r .tag
 
   pub whole : (debug : Bool) (ts : List TypeEntry) (n : ℕ) → n ≡ length ts → (w : Writer) (T S : List ℕ) (g : Taken) (T₁ S₁ : List ℕ)
       → GotBy (innerCost i) (innerDeclared debug ts i) w T S g T₁ S₁
-      → (key : ℕ) → key ≡ packed (entry n) → Small (entry n) → (v : Writer) (T₂ : List ℕ) → EnteredType key (g .id) (g .writer) T₁ v T₂
+      → (key : ℕ) → key ≡ packedKey (entry n) → Small (entry n) → (v : Writer) (T₂ : List ℕ) → EnteredType key (g .id) (g .writer) T₁ v T₂
       → (u : Writer) (S₂ : List ℕ) → Added (naming (nameLength (nameAt b 0) + 3)) (labelIf debug (name (g .id)) (nameAt b 0)) v S₁ u S₂
-      → Kept (recordCost (length (r .body) + 3)) (declareType debug ts (typeOf r)) w T S u T₂ S₂
+      → Kept (recordCost (length (r .body) + 3)) (declareType debug ts (typeOfRecord r)) w T S u T₂ S₂
   unfolding declareType
   whole debug ts n en w T S g T₁ S₁ p key ek sm v T₂ q u S₂ a =
       record {

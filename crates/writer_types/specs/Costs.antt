@@ -8,7 +8,7 @@ use Rattle.definition.specs.Choice.{orElse}
 use Rattle.definition.specs.Sheet.{Member, TypeInner}
 use Rattle.definition.specs.Sheet.{Scalar, Vector, Matrix, Atomic, Pointer, ValuePointer, Array, Struct, Image, Sampler, AccelerationStructure, RayQuery, BindingArray}
 use Rattle.definition.specs.Shapes.{Shape, shapeOf, shape}
-use Rattle.writer.specs.Cost.{Cost, nothing, anId, naming, annotating, declaring, _⊕_}
+use Rattle.writer.specs.Cost.{Cost, noCost, anId, naming, annotating, declaring, _⊕_}
 use Rattle.finding.specs.Costs.{costOf, literalCost}
 
 -- ---- names
@@ -30,8 +30,8 @@ arrayCost = annotating 4 ⊕ elementsCost
 -- ---- structs
 
 -- a member of a name: Offset, ColMajor and MatrixStride, and the name
-abbrev pub memberCost : Name → Cost
-memberCost nm = annotating 14 ⊕ naming (nameLength nm + 4)
+abbrev pub namedMemberCost : Name → Cost
+namedMemberCost nm = annotating 14 ⊕ naming (nameLength nm + 4)
 
 -- the bytes that members take
 unfoldable pub weight : List Member → ℕ
@@ -50,18 +50,18 @@ structCost ms = membersCost ms ⊕ annotating 3 ⊕ declaring (length ms + 2)
 
 -- an aggregate, without its id
 abbrev pub aggregateCost : TypeInner → Cost
-aggregateCost (Scalar k w) = nothing
-aggregateCost (Vector n k w) = nothing
-aggregateCost (Matrix c r w) = nothing
-aggregateCost (Atomic k w) = nothing
-aggregateCost (Pointer b s a) = nothing
-aggregateCost (ValuePointer n k w s a) = nothing
+aggregateCost (Scalar k w) = noCost
+aggregateCost (Vector n k w) = noCost
+aggregateCost (Matrix c r w) = noCost
+aggregateCost (Atomic k w) = noCost
+aggregateCost (Pointer b s a) = noCost
+aggregateCost (ValuePointer n k w s a) = noCost
 aggregateCost (Array b n d) = arrayCost
 aggregateCost (Struct n ms) = structCost ms
-aggregateCost (Image d a c x y) = nothing
-aggregateCost (Sampler c) = nothing
-aggregateCost AccelerationStructure = nothing
-aggregateCost RayQuery = nothing
+aggregateCost (Image d a c x y) = noCost
+aggregateCost (Sampler c) = noCost
+aggregateCost AccelerationStructure = noCost
+aggregateCost RayQuery = noCost
 aggregateCost (BindingArray b n) = elementsCost
 
 -- a shape is found, an aggregate takes an id

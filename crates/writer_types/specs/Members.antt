@@ -8,7 +8,7 @@ use Rattle.definition.specs.Choice.{orElse}
 use Rattle.definition.specs.Instructions.{typeStruct}
 use Rattle.definition.specs.Sheet.{Member, TypeEntry}
 use Rattle.definition.specs.Shapes.{entry}
-use Rattle.definition.specs.State.{State, declare, idOf}
+use Rattle.definition.specs.State.{State, declareAlone, idOf}
 use Rattle.definition.specs.Rules.{decorateMember}
 use Rattle.writer.specs.declared.Writer.{Writer}
 use Rattle.writer.specs.Cost.{declaring}
@@ -33,7 +33,7 @@ idsIn s ms = map (λ m. orElse 0 (idOf s (entry (m .type)))) ms
 
 -- the instruction of these members
 abbrev pub structPut : ℕ → List Member → State → State
-structPut id ms s = declare (typeStruct id (idsIn s ms)) s
+structPut id ms s = declareAlone (typeStruct id (idsIn s ms)) s
 
 -- the instruction of n members is put; the tables are only read
 pub record StructPut (id : ℕ) (ms : List Member) (n : ℕ) (w : Writer) (T S : List ℕ) (v : Writer) (S′ : List ℕ) : Type 0 where

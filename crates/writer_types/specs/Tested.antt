@@ -7,6 +7,6 @@ use Rattle.definition.specs.Sheet.{Record, typeFields}
 use Rattle.definition.specs.Tests.{innerFits}
 
 -- tests 8 and 10
-pub record Tested (r : Record) : Type 0 where
+pub record TypeTested (r : Record) : Type 0 where
   pub whole : typeFields (r .tag) (r .body) (nameEnd (r .body) 0) .end ≡ length (r .body)
   pub values : innerFits (typeFields (r .tag) (r .body) (nameEnd (r .body) 0) .value) ≡ true

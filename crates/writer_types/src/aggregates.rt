@@ -6,7 +6,7 @@ use writer::Writer;
 use writer::sections;
 ghost use Prim.Native.Nat.{_+_, _<_};
 ghost use Rattle.definition.specs.Sheet.{membersAt};
-ghost use Rattle.writer.specs.Cost.{nothing, declaring};
+ghost use Rattle.writer.specs.Cost.{noCost, declaring};
 ghost use Rattle.writer.specs.Held.{RoomIn, RoomFor, Room};
 ghost use Rattle.writer.specs.Steps.{Kept};
 ghost use Rattle.writer_types.specs.Arrays.{elementsDeclared, arrayDeclared};
@@ -57,23 +57,23 @@ pub fn put_struct(
     tables: &[u64],
     sections: &mut [u32],
     w: Writer,
-    b: &[u8],
+    body: &[u8],
     id: u64,
     first: usize,
     count: u8,
 ) -> Writer
-    requires { ⌜ (first < 1000) × (RoomIn nothing w (now tables) × RoomFor (declaring (count + 2)) w (now sections)) ⌝ }
-    ensures { λ r. ⌜ StructPut id (membersAt (now (b .entry)) first count) count w (now (tables .entry)) (now (sections .entry)) r (now (sections .exit)) ⌝ }
+    requires { ⌜ (first < 1000) × (RoomIn noCost w (now tables) × RoomFor (declaring (count + 2)) w (now sections)) ⌝ }
+    ensures { λ r. ⌜ StructPut id (membersAt (now (body .entry)) first count) count w (now (tables .entry)) (now (sections .entry)) r (now (sections .exit)) ⌝ }
 {
     sections::type_struct_head(sections, w, id, count as usize);
     let mut p = first;
     let mut k = count;
     let mut j: usize = 2;
     while 0 < k {
-        let ty = fields::u16_at(b, p);
+        let ty = fields::u16_at(body, p);
         let x = finding::type_id(tables, w, LookupType::Handle(ty));
         writer::put_pending(sections, w, j, low_word(x));
-        p = fields::name_end(b, p + 6);
+        p = fields::name_end(body, p + 6);
         j += 1;
         k -= 1;
     }

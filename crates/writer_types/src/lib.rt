@@ -5,7 +5,7 @@ mod names;
 mod structs;
 
 use entries::types::TypeInner;
-use locals::Made;
+use locals::MaybeLocal;
 use lookup::LookupType;
 use writer::Taken;
 use writer::Writer;
@@ -13,13 +13,13 @@ ghost use Prim.Native.Nat.{_+_, _≤_, _<_};
 ghost use lib.ListN.{length};
 ghost use Rattle.definition.specs.Sheet.{recordAt};
 ghost use Rattle.definition.specs.Rules.{declareAggregate, declareType};
-ghost use Rattle.records.specs.Places.{typeOf, typesFrom};
+ghost use Rattle.records.specs.Places.{typeOfRecord, typesFrom};
 ghost use Rattle.writer.specs.Cost.{recordCost};
 ghost use Rattle.writer.specs.Held.{Room};
 ghost use Rattle.writer.specs.Steps.{Kept, GotBy};
 ghost use Rattle.writer_types.specs.Inner.{innerIn, innerDeclared};
 ghost use Rattle.writer_types.specs.Costs.{aggregateCost, innerCost};
-ghost use Rattle.writer_types.specs.Tested.{Tested};
+ghost use Rattle.writer_types.specs.Tested.{TypeTested};
 
 // What an aggregate of body b is, under its id; the others are shapes.
 fn write_aggregate(
@@ -114,8 +114,8 @@ fn declare_inner(
     ensures { λ r. ⌜ GotBy (innerCost (innerIn (now (b .entry)) t)) (innerDeclared debug (typesFrom (now (s .entry)) (now (types .entry)) n) (innerIn (now (b .entry)) t)) w (now (tables .entry)) (now (sections .entry)) r (now (tables .exit)) (now (sections .exit)) ⌝ }
 {
     match locals::make_local(t) {
-        Made::Local(l) => finding::get_type_id(tables, sections, w, LookupType::Local(l)),
-        Made::Aggregate => {
+        MaybeLocal::Local(l) => finding::get_type_id(tables, sections, w, LookupType::Local(l)),
+        MaybeLocal::Aggregate => {
             let k = writer::take_id(w);
             let id = k.id;
             let v = write_aggregate(tables, sections, k.writer, s, types, n, b, debug, t, id);
@@ -130,19 +130,19 @@ pub fn write_type_declaration_arena(
     tables: &mut [u64],
     sections: &mut [u32],
     w: Writer,
-    s: &[u8],
+    sheet: &[u8],
     types: &[u32],
-    n: usize,
+    ntypes: usize,
     rest: &[u8],
     debug: bool,
 ) -> Writer
-    requires { ⌜ (n ≤ length (now types)) × ((n < 65536) × (Tested (recordAt (now rest)) × Room (recordCost (length (recordAt (now rest) .body) + 3)) w (now tables) (now sections))) ⌝ }
-    ensures { λ r. ⌜ Kept (recordCost (length (recordAt (now (rest .entry)) .body) + 3)) (declareType debug (typesFrom (now (s .entry)) (now (types .entry)) n) (typeOf (recordAt (now (rest .entry))))) w (now (tables .entry)) (now (sections .entry)) r (now (tables .exit)) (now (sections .exit)) ⌝ }
+    requires { ⌜ (ntypes ≤ length (now types)) × ((ntypes < 65536) × (TypeTested (recordAt (now rest)) × Room (recordCost (length (recordAt (now rest) .body) + 3)) w (now tables) (now sections))) ⌝ }
+    ensures { λ r. ⌜ Kept (recordCost (length (recordAt (now (rest .entry)) .body) + 3)) (declareType debug (typesFrom (now (sheet .entry)) (now (types .entry)) ntypes) (typeOfRecord (recordAt (now (rest .entry))))) w (now (tables .entry)) (now (sections .entry)) r (now (tables .exit)) (now (sections .exit)) ⌝ }
 {
     let b = records::body_of(rest);
     let t = entries::types::inner_of(records::tag_of(rest), b);
-    let g = declare_inner(tables, sections, w, s, types, n, b, debug, t);
-    let k = lookup::key(LookupType::Handle(n as u16));
+    let g = declare_inner(tables, sections, w, sheet, types, ntypes, b, debug, t);
+    let k = lookup::key(LookupType::Handle(ntypes as u16));
     let v = writer::enter_type(tables, g.writer, k, g.id);
     names::name_type(sections, v, b, debug, g.id)
 }

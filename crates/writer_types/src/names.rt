@@ -15,19 +15,19 @@ ghost use Rattle.writer.specs.Steps.{Added};
 ghost use Rattle.writer_types.specs.Costs.{nameLength};
 
 // Whether there is a name at p that is to be written.
-pub fn is_written(b: &[u8], debug: bool, p: usize) -> bool
-    ensures { λ r. ⌜ r ≡ (debug && present (nameAt (now (b .entry)) p)) ⌝ }
+pub fn is_written(body: &[u8], debug: bool, p: usize) -> bool
+    ensures { λ r. ⌜ r ≡ (debug && present (nameAt (now (body .entry)) p)) ⌝ }
 {
-    debug && has_name(b, p)
+    debug && has_name(body, p)
 }
 
 // The name of a type, which stands at the front of its body.
-pub fn name_type(sections: &mut [u32], w: Writer, b: &[u8], debug: bool, id: u64) -> Writer
-    requires { ⌜ RoomFor (naming (nameLength (nameAt (now b) 0) + 3)) w (now sections) ⌝ }
-    ensures { λ r. ⌜ Added (naming (nameLength (nameAt (now (b .entry)) 0) + 3)) (labelIf debug (name id) (nameAt (now (b .entry)) 0)) w (now (sections .entry)) r (now (sections .exit)) ⌝ }
+pub fn name_type(sections: &mut [u32], w: Writer, body: &[u8], debug: bool, id: u64) -> Writer
+    requires { ⌜ RoomFor (naming (nameLength (nameAt (now body) 0) + 3)) w (now sections) ⌝ }
+    ensures { λ r. ⌜ Added (naming (nameLength (nameAt (now (body .entry)) 0) + 3)) (labelIf debug (name id) (nameAt (now (body .entry)) 0)) w (now (sections .entry)) r (now (sections .exit)) ⌝ }
 {
-    if !is_written(b, debug, 0) {
+    if !is_written(body, debug, 0) {
         return w;
     }
-    writer::label(sections, w, id, name_part(b, 0))
+    writer::label(sections, w, id, name_part(body, 0))
 }

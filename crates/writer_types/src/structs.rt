@@ -20,7 +20,7 @@ ghost use Rattle.writer.specs.Cost.{annotating};
 ghost use Rattle.writer.specs.Held.{RoomFor, Room};
 ghost use Rattle.writer.specs.Steps.{Kept, Added};
 ghost use Rattle.writer_types.specs.Members.{memberAt, decorated};
-ghost use Rattle.writer_types.specs.Costs.{memberCost, membersCost, structCost};
+ghost use Rattle.writer_types.specs.Costs.{namedMemberCost, membersCost, structCost};
 
 // Member i, which stands at p.
 fn decorate_member_at(
@@ -35,8 +35,8 @@ fn decorate_member_at(
     i: u32,
     p: usize,
 ) -> Writer
-    requires { ⌜ (n ≤ length (now types)) × ((p < 4294967296) × RoomFor (memberCost (nameAt (now b) (p + 6))) w (now sections)) ⌝ }
-    ensures { λ r. ⌜ Added (memberCost (nameAt (now (b .entry)) (p + 6))) (decorateMember debug (typesFrom (now (s .entry)) (now (types .entry)) n) id i (memberAt (now (b .entry)) p)) w (now (sections .entry)) r (now (sections .exit)) ⌝ }
+    requires { ⌜ (n ≤ length (now types)) × ((p < 4294967296) × RoomFor (namedMemberCost (nameAt (now b) (p + 6))) w (now sections)) ⌝ }
+    ensures { λ r. ⌜ Added (namedMemberCost (nameAt (now (b .entry)) (p + 6))) (decorateMember debug (typesFrom (now (s .entry)) (now (types .entry)) n) id i (memberAt (now (b .entry)) p)) w (now (sections .entry)) r (now (sections .exit)) ⌝ }
 {
     let offset = fields::u32_at(b, p + 2);
     let named = is_written(b, debug, p + 6);
@@ -107,20 +107,31 @@ pub fn write_struct(
     tables: &[u64],
     sections: &mut [u32],
     w: Writer,
-    s: &[u8],
+    sheet: &[u8],
     types: &[u32],
-    n: usize,
-    b: &[u8],
+    ntypes: usize,
+    body: &[u8],
     debug: bool,
     id: u64,
     first: usize,
     count: u8,
 ) -> Writer
-    requires { ⌜ (n ≤ length (now types)) × ((first < 1000) × Room (structCost (membersAt (now b) first count)) w (now tables) (now sections)) ⌝ }
-    ensures { λ r. ⌜ Kept (structCost (membersAt (now (b .entry)) first count)) (declareStruct debug (typesFrom (now (s .entry)) (now (types .entry)) n) id (membersAt (now (b .entry)) first count)) w (now (tables .entry)) (now (sections .entry)) r (now (tables .entry)) (now (sections .exit)) ⌝ }
+    requires { ⌜ (ntypes ≤ length (now types)) × ((first < 1000) × Room (structCost (membersAt (now body) first count)) w (now tables) (now sections)) ⌝ }
+    ensures { λ r. ⌜ Kept (structCost (membersAt (now (body .entry)) first count)) (declareStruct debug (typesFrom (now (sheet .entry)) (now (types .entry)) ntypes) id (membersAt (now (body .entry)) first count)) w (now (tables .entry)) (now (sections .entry)) r (now (tables .entry)) (now (sections .exit)) ⌝ }
 {
-    let v = decorate_struct_members(sections, w, s, types, n, b, debug, id, first, count);
-    let d = has_runtime_array(s, types, n, b, first, count);
+    let v = decorate_struct_members(
+        sections,
+        w,
+        sheet,
+        types,
+        ntypes,
+        body,
+        debug,
+        id,
+        first,
+        count,
+    );
+    let d = has_runtime_array(sheet, types, ntypes, body, first, count);
     let u = block_if(sections, v, d, id);
-    put_struct(tables, sections, u, b, id, first, count)
+    put_struct(tables, sections, u, body, id, first, count)
 }

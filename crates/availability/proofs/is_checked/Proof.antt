@@ -6,7 +6,7 @@ use Rattle.availability.proofs.is_checked.Statement.{statement}
 use Rattle.availability.proofs.is_checked.Tie as tie
 
 returns-4 : tie.Need-returns-4
-returns-4 c = λ e. let r = c .match .rest in unchecked (c .before .args .t) (r .0 .0 .1) (r .0 .1) (r .1)
+returns-4 c = λ e. let r = c .match .rest in unchecked (c .before .args .tag) (r .0 .0 .1) (r .0 .1) (r .1)
 
 pub is-checked-spec : {M : Type 1} → statement M
 is-checked-spec =

@@ -6,7 +6,7 @@ use lib.ListN.{replicate}
 use borrow.Author.Needs.{needs}
 use Rattle.definition.specs.Operations.{Declared}
 use Rattle.printing.specs.Text.{Printed}
-use Rattle.declare_main.specs.Answers.{printed, lent, Counted}
+use Rattle.declare_main.specs.Answers.{printed, wordsLent, CountWithin}
 use Rattle.declare_main.proofs.Laws.{counted}
 use Rattle.declare_main.proofs.put_answer_to.Statement.{statement}
 use Rattle.declare_main.proofs.put_answer_to.Tie as tie
@@ -15,7 +15,7 @@ put-answer-requires : tie.Need-put-answer-requires
 put-answer-requires c κs =
     let d = c .before .before .before in
     let s = d .before .before .before .before .args .sheet .now in
-    (subst (λ (z : Declared). Counted (z .answer) (z .buffer)) (sym (d .declare .ensures .same)) (counted s (replicate lent 0)), omega arith, omega arith)
+    (subst (λ (z : Declared). CountWithin (z .answer) (z .buffer)) (sym (d .declare .ensures .same)) (counted s (replicate wordsLent 0)), omega arith, omega arith)
 
 returns : tie.Need-returns
 returns c =

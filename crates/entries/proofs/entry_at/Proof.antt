@@ -5,7 +5,7 @@ use Rattle.entries.proofs.entry_at.Statement.{statement}
 use Rattle.entries.proofs.entry_at.Tie as tie
 
 cast-rest-at : tie.Need-cast-rest-at
-cast-rest-at c = omega (arith, c .shared-slice-known3 .given (c .before .before .before .args .i))
+cast-rest-at c = omega (arith, c .shared-slice-known3 .given (c .before .before .before .args .index))
 
 pub entry-at-spec : {M : Type 1} → statement M
 entry-at-spec =

@@ -5,7 +5,7 @@ use Rattle.finding.specs.Costs.{longer}
 use Rattle.writer.proofs.Words.{adds-count}
 use Rattle.writer.specs.Regions.{declarations}
 use Rattle.writer.specs.Steps.{withCapabilities}
-use Rattle.lookup.specs.Local.{shapeOf}
+use Rattle.lookup.specs.Local.{localShape}
 use Rattle.definition.specs.Instructions.{words}
 use Rattle.definition.specs.Shapes.{typeOf}
 use Prim.Native.Nat.{_+_}
@@ -17,14 +17,14 @@ use Rattle.finding.proofs.put_declaration.Tie as tie
 
 add-w : tie.Need-add-w
 add-w c = let a = c .before .before .before .before .before .before .before .before .before .before .before .before .before .before .before .before .before .before .before .before .args in let x = c .before .before .before .before .before .before .before .before .before .before .before .before .before .before .before .before .listed in let y = c .before .before .before .before .before .before .before .before .before .before .before .before .listed2 in let z = c .before .before .before .put-shape in
-    let i = words (typeOf (shapeOf (a .l)) (c .before .before .before .before .before .before .low-word .result) (c .before .before .before .before .before .low-word2 .result) (c .before .before .before .before .low-word3 .result)) in
-    let few = type-few (shapeOf (a .l)) (c .before .before .before .before .before .before .low-word .result) (c .before .before .before .before .before .low-word2 .result) (c .before .before .before .before .low-word3 .result) in
-    omega (arith, x .ensures .few, y .ensures .few, x .kept, y .kept, c .before .before .before .before .before .before .before .before .before .before .before .before .before .before .before .before .before .before .before .before .pre .1, c .before .before .before .before .before .before .before .before .before .before .before .before .before .before .before .before .before .before .before .before .good, c .before .before .before .before .before .before .before .before .before .before .before .before .before .before .before .before .before .before .before .before .fits, few, adds-count (withCapabilities (a .w) (y .result)) (y .last .0) i (4 + longer (shapeOf (a .l))) few declarations (z .last .0) (z .result) (omega (arith, x .ensures .few, y .ensures .few, x .kept, y .kept, c .before .before .before .before .before .before .before .before .before .before .before .before .before .before .before .before .before .before .before .before .pre .1)) (z .ensures))
+    let i = words (typeOf (localShape (a .l)) (c .before .before .before .before .before .before .low-word .result) (c .before .before .before .before .before .low-word2 .result) (c .before .before .before .before .low-word3 .result)) in
+    let few = type-few (localShape (a .l)) (c .before .before .before .before .before .before .low-word .result) (c .before .before .before .before .before .low-word2 .result) (c .before .before .before .before .low-word3 .result) in
+    omega (arith, x .ensures .few, y .ensures .few, x .kept, y .kept, c .before .before .before .before .before .before .before .before .before .before .before .before .before .before .before .before .before .before .before .before .pre .1, c .before .before .before .before .before .before .before .before .before .before .before .before .before .before .before .before .before .before .before .before .good, c .before .before .before .before .before .before .before .before .before .before .before .before .before .before .before .before .before .before .before .before .fits, few, adds-count (withCapabilities (a .w) (y .result)) (y .last .0) i (4 + longer (localShape (a .l))) few declarations (z .last .0) (z .result) (omega (arith, x .ensures .few, y .ensures .few, x .kept, y .kept, c .before .before .before .before .before .before .before .before .before .before .before .before .before .before .before .before .before .before .before .before .pre .1)) (z .ensures))
 
 returns : tie.Need-returns
 returns c = let a = c .before .before .before .before .before .before .before .before .before .before .before .before .before .before .before .before .before .before .before .before .args in let x = c .before .before .before .before .before .before .before .before .before .before .before .before .before .before .before .before .listed in let y = c .before .before .before .before .before .before .before .before .before .before .before .before .listed2 in let z = c .before .before .before .put-shape in let k = c .before .before .before .before .before .before .before .before .before .before .before .before .before .before .before .before .before .before .capabilities-of in
     let u = withCapabilities (a .w) (x .result) in
-    put-declared (shapeOf (a .l)) (c .before .before .before .before .before .before .before .before .before .before .before .before .before .before .before .before .before .before .before .before .pre .0) (a .id) (a .x) (a .y) (a .w) u (withCapabilities u (y .result)) (a .sections .now) (x .last .0) (y .last .0) (k .result .first) (k .result .second) (k .ensures)
+    put-declared (localShape (a .l)) (c .before .before .before .before .before .before .before .before .before .before .before .before .before .before .before .before .before .before .before .before .pre .0) (a .id) (a .x) (a .y) (a .w) u (withCapabilities u (y .result)) (a .sections .now) (x .last .0) (y .last .0) (k .result .first) (k .result .second) (k .ensures)
     (x .ensures .lists (a .w) refl (omega (arith, c .before .before .before .before .before .before .before .before .before .before .before .before .before .before .before .before .before .before .before .before .pre .1))) (y .ensures .lists u refl (omega (arith, x .ensures .few, x .kept, c .before .before .before .before .before .before .before .before .before .before .before .before .before .before .before .before .before .before .before .before .pre .1)))
     (c .before .before .before .before .before .before .low-word .result) (c .before .before .before .before .before .low-word2 .result) (c .before .before .before .before .low-word3 .result) (z .result) (z .last .0) (c .before .before .before .before .before .before .low-word .ensures) (c .before .before .before .before .before .low-word2 .ensures) (c .before .before .before .before .low-word3 .ensures)
     (omega (arith, x .ensures .few, y .ensures .few, x .kept, y .kept, c .before .before .before .before .before .before .before .before .before .before .before .before .before .before .before .before .before .before .before .before .pre .1)) (z .ensures)

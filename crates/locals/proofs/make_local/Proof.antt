@@ -11,13 +11,13 @@ enum-told : tie.Need-enum-told
 enum-told c = search needs
 
 returns-5 : tie.Need-returns-5
-returns-5 c = let e = c .class-byte .ensures in λ b n. rw (c .before .before .t5 .given .1) (cc)
+returns-5 c = let e = c .class-byte .ensures in λ b n. rw (c .before .before .inner5 .given .1) (cc)
 
 returns-6 : tie.Need-returns-6
-returns-6 c = let e = c .class-byte2 .ensures in let f = c .before .vector-size .ensures in λ b n. rw (c .before .before .before .t6 .given .1) (cc)
+returns-6 c = let e = c .class-byte2 .ensures in let f = c .before .vector-size .ensures in λ b n. rw (c .before .before .before .inner6 .given .1) (cc)
 
 returns-9 : tie.Need-returns-9
-returns-9 c = λ b n. rw (c .before .before .t7 .given .1) (ap some (c .image-type .ensures))
+returns-9 c = λ b n. rw (c .before .before .inner7 .given .1) (ap some (c .image-type .ensures))
 
 pub make-local-spec : {M : Type 1} → statement M
 make-local-spec =
@@ -25,8 +25,8 @@ make-local-spec =
     (tie.spec (λ c. search needs) (λ c. search needs) (λ c. search needs) (λ c. search needs) (λ c. search needs)
     (λ c κs. search needs) (λ c. search needs) (λ c κs. search needs) (λ c κs. search needs) enum-told (λ c. search needs)
     (λ c. search needs) (λ c κs. search needs) (λ c. search needs) (λ c. search needs) (λ c. search needs) (λ c. search needs)
-    (λ c. λ b n. rw (c .before .t .given .1)) (λ c. λ b n. rw (c .before .t2 .given .1))
-    (λ c. λ b n. rw (c .before .t3 .given .1)) (λ c. λ b n. rw (c .before .t4 .given .1)) returns-5 returns-6
+    (λ c. λ b n. rw (c .before .inner .given .1)) (λ c. λ b n. rw (c .before .inner2 .given .1))
+    (λ c. λ b n. rw (c .before .inner3 .given .1)) (λ c. λ b n. rw (c .before .inner4 .given .1)) returns-5 returns-6
     (λ c. λ b n. rw (c .enum-told .given .1)) (λ c. λ b n. rw (c .enum-told2 .given .1)) returns-9
     (λ c. λ b n. rw (c .enum-told3 .given .1)) (λ c. λ b n. rw (c .enum-told4 .given .1))
     (λ c. λ b n. rw (c .enum-told5 .given .1)) (λ c. λ b n. rw (c .enum-told6 .given .1)))

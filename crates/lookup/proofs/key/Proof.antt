@@ -4,10 +4,10 @@ use Rattle.lookup.proofs.key.Statement.{statement}
 use Rattle.lookup.proofs.key.Tie as tie
 
 returns : tie.Need-returns
-returns c = rw (c .before .before .t .given .1) (c .handle-key .ensures)
+returns c = rw (c .before .before .ty .given .1) (c .handle-key .ensures)
 
 returns-2 : tie.Need-returns-2
-returns-2 c = rw (c .before .before .t2 .given .1) (c .local-key .ensures)
+returns-2 c = rw (c .before .before .ty2 .given .1) (c .local-key .ensures)
 
 pub key-spec : {M : Type 1} → statement M
 key-spec =

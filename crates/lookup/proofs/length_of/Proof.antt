@@ -8,17 +8,17 @@ enum-told : tie.Need-enum-told
 enum-told c = search needs
 
 returns : tie.Need-returns
-returns c = rw (c .before .before .before .before .before .l .given .1, c .before .before .enum-told .given .1, c .enum-told2 .given .1)
+returns c = rw (c .before .before .before .before .before .local .given .1, c .before .before .enum-told .given .1, c .enum-told2 .given .1)
 
 returns-2 : tie.Need-returns-2
-returns-2 c = rw (c .before .before .before .before .before .l .given .1, c .before .before .enum-told .given .1, c .enum-told3 .given .1)
+returns-2 c = rw (c .before .before .before .before .before .local .given .1, c .before .before .enum-told .given .1, c .enum-told3 .given .1)
 
 pub length-of-spec : {M : Type 1} → statement M
 length-of-spec =
     tie.close
     (tie.spec (λ c. search needs) enum-told (λ c. search needs) (λ c. search needs) (λ c. search needs) (λ c. search needs)
     (λ c. search needs) (λ c. search needs) (λ c. search needs) (λ c. search needs) (λ c. search needs) (λ c. search needs)
-    (λ c. search needs) returns returns-2 (λ c. rw (c .before .before .before .l .given .1, c .enum-told4 .given .1))
+    (λ c. search needs) returns returns-2 (λ c. rw (c .before .before .before .local .given .1, c .enum-told4 .given .1))
     (λ c. rw (c .enum-told5 .given .1)) (λ c. rw (c .enum-told6 .given .1)) (λ c. rw (c .enum-told7 .given .1))
-    (λ c. rw (c .enum-told8 .given .1)) (λ c. rw (c .enum-told9 .given .1)) (λ c. rw (c .before .l2 .given .1))
+    (λ c. rw (c .enum-told8 .given .1)) (λ c. rw (c .enum-told9 .given .1)) (λ c. rw (c .before .local2 .given .1))
     (λ c. rw (c .enum-told10 .given .1)) (λ c. rw (c .enum-told11 .given .1)))

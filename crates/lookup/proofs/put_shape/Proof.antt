@@ -9,28 +9,28 @@ enum-told : tie.Need-enum-told
 enum-told c = search needs
 
 returns : tie.Need-returns
-returns c = rw (c .before .before .before .before .before .before .before .before .before .l .given .1, c .before .before .before .before .before .before .enum-told .given .1, c .before .before .before .before .enum-told2 .given .1) (c .before .before .put-scalar .ensures)
+returns c = rw (c .before .before .before .before .before .before .before .before .before .local .given .1, c .before .before .before .before .before .before .enum-told .given .1, c .before .before .before .before .enum-told2 .given .1) (c .before .before .put-scalar .ensures)
 
 returns-2 : tie.Need-returns-2
-returns-2 c = rw (c .before .before .before .before .before .before .before .before .before .before .l .given .1, c .before .before .before .before .before .before .before .enum-told .given .1, c .before .before .before .before .before .size .given .1) (c .before .before .type-vector .ensures)
+returns-2 c = rw (c .before .before .before .before .before .before .before .before .before .before .local .given .1, c .before .before .before .before .before .before .before .enum-told .given .1, c .before .before .before .before .before .size .given .1) (c .before .before .type-vector .ensures)
 
 returns-3 : tie.Need-returns-3
-returns-3 c = rw (c .before .before .before .before .before .before .before .before .l .given .1, c .before .before .before .before .before .class .given .1) (c .before .before .type-pointer .ensures)
+returns-3 c = rw (c .before .before .before .before .before .before .before .before .local .given .1, c .before .before .before .before .before .class .given .1) (c .before .before .type-pointer .ensures)
 
 returns-4 : tie.Need-returns-4
-returns-4 c = rw (c .before .before .before .before .before .l2 .given .1) (c .before .before .type-matrix .ensures)
+returns-4 c = rw (c .before .before .before .before .before .local2 .given .1) (c .before .before .type-matrix .ensures)
 
 returns-5 : tie.Need-returns-5
-returns-5 c = rw (c .before .before .before .before .before .l3 .given .1) (c .before .before .type-pointer2 .ensures)
+returns-5 c = rw (c .before .before .before .before .before .local3 .given .1) (c .before .before .type-pointer2 .ensures)
 
 returns-6 : tie.Need-returns-6
-returns-6 c = rw (c .before .before .before .before .before .before .before .before .before .before .before .l4 .given .1, c .before .before .before .before .before .before .before .before .struct-known .given .1, c .before .before .before .before .before .before .before .struct-known2 .given .1, c .before .before .before .before .before .before .struct-known3 .given .1, c .before .before .before .before .before .struct-known4 .given .1, c .before .before .before .before .struct-known5 .given .1, c .before .before .before .struct-known6 .given .1) (c .before .before .type-image .ensures)
+returns-6 c = rw (c .before .before .before .before .before .before .before .before .before .before .before .local4 .given .1, c .before .before .before .before .before .before .before .before .struct-known .given .1, c .before .before .before .before .before .before .before .struct-known2 .given .1, c .before .before .before .before .before .before .struct-known3 .given .1, c .before .before .before .before .before .struct-known4 .given .1, c .before .before .before .before .struct-known5 .given .1, c .before .before .before .struct-known6 .given .1) (c .before .before .type-image .ensures)
 
 returns-7 : tie.Need-returns-7
 returns-7 c = rw (c .before .before .before .before .enum-told3 .given .1) (c .before .before .type-sampler .ensures)
 
 returns-8 : tie.Need-returns-8
-returns-8 c = rw (c .before .before .before .before .before .before .l5 .given .1, ← c .before .before .before .map-storage-class .ensures) (c .before .before .type-pointer3 .ensures)
+returns-8 c = rw (c .before .before .before .before .before .before .local5 .given .1, ← c .before .before .before .map-storage-class .ensures) (c .before .before .type-pointer3 .ensures)
 
 returns-9 : tie.Need-returns-9
 returns-9 c = rw (c .before .before .before .before .enum-told4 .given .1) (c .before .before .type-array .ensures)

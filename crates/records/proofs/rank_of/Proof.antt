@@ -20,23 +20,23 @@ returns-3 c = simp (c .match .keys3)
 
 returns-4 : tie.Need-returns-4
 unfolding tagRank
-returns-4 c = let t = c .before .before .before .args .t in simp (ne-eqb _ _ (c .before .before .match .rest .0 .0 .1), ne-eqb _ _ (c .before .before .match .rest .0 .1), inside 16 28 t (omega arith) (omega arith))
+returns-4 c = let t = c .before .before .before .args .tag in simp (ne-eqb _ _ (c .before .before .match .rest .0 .0 .1), ne-eqb _ _ (c .before .before .match .rest .0 .1), inside 16 28 t (omega arith) (omega arith))
 
 returns-5 : tie.Need-returns-5
 unfolding tagRank
-returns-5 c = let t = c .before .before .before .before .before .args .t in simp (ne-eqb _ _ (c .before .before .before .before .match .rest .0 .0 .1), ne-eqb _ _ (c .before .before .before .before .match .rest .0 .1), above 16 28 t (omega arith), inside 64 68 t (omega arith) (omega arith))
+returns-5 c = let t = c .before .before .before .before .before .args .tag in simp (ne-eqb _ _ (c .before .before .before .before .match .rest .0 .0 .1), ne-eqb _ _ (c .before .before .before .before .match .rest .0 .1), above 16 28 t (omega arith), inside 64 68 t (omega arith) (omega arith))
 
 returns-6 : tie.Need-returns-6
 unfolding tagRank
-returns-6 c = let t = c .before .before .args .t in simp (ne-eqb _ _ (c .before .match .rest .0 .0 .1), ne-eqb _ _ (c .before .match .rest .0 .1), ne-eqb _ _ (c .before .match .rest .1), below 16 28 t (omega arith), below 64 68 t (omega arith))
+returns-6 c = let t = c .before .before .args .tag in simp (ne-eqb _ _ (c .before .match .rest .0 .0 .1), ne-eqb _ _ (c .before .match .rest .0 .1), ne-eqb _ _ (c .before .match .rest .1), below 16 28 t (omega arith), below 64 68 t (omega arith))
 
 returns-7 : tie.Need-returns-7
 unfolding tagRank
-returns-7 c = let t = c .before .before .before .before .args .t in simp (ne-eqb _ _ (c .before .before .before .match .rest .0 .0 .1), ne-eqb _ _ (c .before .before .before .match .rest .0 .1), ne-eqb _ _ (c .before .before .before .match .rest .1), above 16 28 t (omega arith), below 64 68 t (omega arith))
+returns-7 c = let t = c .before .before .before .before .args .tag in simp (ne-eqb _ _ (c .before .before .before .match .rest .0 .0 .1), ne-eqb _ _ (c .before .before .before .match .rest .0 .1), ne-eqb _ _ (c .before .before .before .match .rest .1), above 16 28 t (omega arith), below 64 68 t (omega arith))
 
 returns-8 : tie.Need-returns-8
 unfolding tagRank
-returns-8 c = let t = c .before .before .before .before .before .args .t in simp (ne-eqb _ _ (c .before .before .before .before .match .rest .0 .0 .1), ne-eqb _ _ (c .before .before .before .before .match .rest .0 .1), ne-eqb _ _ (c .before .before .before .before .match .rest .1), above 16 28 t (omega arith), above 64 68 t (omega arith))
+returns-8 c = let t = c .before .before .before .before .before .args .tag in simp (ne-eqb _ _ (c .before .before .before .before .match .rest .0 .0 .1), ne-eqb _ _ (c .before .before .before .before .match .rest .0 .1), ne-eqb _ _ (c .before .before .before .before .match .rest .1), above 16 28 t (omega arith), above 64 68 t (omega arith))
 
 pub rank-of-spec : {M : Type 1} → statement M
 rank-of-spec =

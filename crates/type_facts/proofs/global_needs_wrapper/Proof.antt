@@ -11,13 +11,13 @@ use Rattle.type_facts.proofs.global_needs_wrapper.Tie as tie
 
 returns : tie.Need-returns
 returns c = λ g et es. let a = c .before .before .before .before .args in
-    let ts = typesFrom (a .s .now) (a .types .now) (a .n) in
-    sym (wrapper ts (a .i) (a .space) g et es ∙ ap (λ x. x && wrapsType ts (innerAt ts (a .i))) (sym (c .before .wraps-space .ensures) ∙ not-true _ (c .if1 .taken)))
+    let ts = typesFrom (a .sheet .now) (a .types .now) (a .ntypes) in
+    sym (wrapper ts (a .index) (a .space) g et es ∙ ap (λ x. x && wrapsType ts (innerAt ts (a .index))) (sym (c .before .wraps-space .ensures) ∙ not-true _ (c .if1 .taken)))
 
 returns-2 : tie.Need-returns-2
 returns-2 c = λ g et es. let a = c .before .before .before .before .before .args in
-    let ts = typesFrom (a .s .now) (a .types .now) (a .n) in
-    c .wraps-type .ensures ∙ sym (wrapper ts (a .i) (a .space) g et es ∙ ap (λ x. x && wrapsType ts (innerAt ts (a .i))) (sym (c .before .before .wraps-space .ensures) ∙ not-false _ (c .before .if1 .left)))
+    let ts = typesFrom (a .sheet .now) (a .types .now) (a .ntypes) in
+    c .wraps-type .ensures ∙ sym (wrapper ts (a .index) (a .space) g et es ∙ ap (λ x. x && wrapsType ts (innerAt ts (a .index))) (sym (c .before .before .wraps-space .ensures) ∙ not-false _ (c .before .if1 .left)))
 
 pub global-needs-wrapper-spec : {M : Type 1} → statement M
 global-needs-wrapper-spec =

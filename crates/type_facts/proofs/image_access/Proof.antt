@@ -11,7 +11,7 @@ use Rattle.type_facts.proofs.image_access.Tie as tie
 returns : tie.Need-returns
 returns c =
     let a = c .before .before .before .before .args in
-    ap byteOf (c .access-in .ensures ∙ ap accessIn (c .before .facet-at .ensures)) ∙ sym (access (innerAt (typesFrom (a .s .now) (a .types .now) (a .n)) (a .i)))
+    ap byteOf (c .access-in .ensures ∙ ap accessIn (c .before .facet-at .ensures)) ∙ sym (access (innerAt (typesFrom (a .sheet .now) (a .types .now) (a .ntypes)) (a .index)))
 
 pub image-access-spec : {M : Type 1} → statement M
 image-access-spec = tie.close (tie.spec (λ c κs. search needs) (λ c κs. search needs) returns)

@@ -11,7 +11,7 @@ use Rattle.type_facts.proofs.is_pointer.Tie as tie
 returns : tie.Need-returns
 returns c =
     let a = c .before .before .before .before .args in
-    c .pointer-in .ensures ∙ ap pointerIn (c .before .facet-at .ensures) ∙ sym (pointer (innerAt (typesFrom (a .s .now) (a .types .now) (a .n)) (a .i)))
+    c .pointer-in .ensures ∙ ap pointerIn (c .before .facet-at .ensures) ∙ sym (pointer (innerAt (typesFrom (a .sheet .now) (a .types .now) (a .ntypes)) (a .index)))
 
 pub is-pointer-spec : {M : Type 1} → statement M
 is-pointer-spec = tie.close (tie.spec (λ c κs. search needs) (λ c κs. search needs) returns)

@@ -33,8 +33,8 @@ loop-again c =
     let w = p .before .before .before .before .before in
     let l = w .before .before .loop in
     let a = w .before .before .before .before .before .args in
-    more (a .sheet .now) (a .text .now) (l .text) (l .at) (l .i) (l .left) (l .inv) (l .left - 1) (omega arith) (y .0 .0) (p .put-answer .last .0)
-    (p .put-answer .result) (sym (w .wrapped .ensures .same) ∙ ap wrappingAs (y .1)) (p .put-answer .ensures)
+    more (a .sheet .now) (a .text .now) (l .text) (l .at) (l .i) (l .left) (l .inv) (l .left - 1) (omega arith) (y .0 .0) (p .put-yes-or-no .last .0)
+    (p .put-yes-or-no .result) (sym (w .wrapped .ensures .same) ∙ ap wrappingAs (y .1)) (p .put-yes-or-no .ensures)
 
 returns-2 : tie.Need-returns-2 Inv-loop μ-loop
 returns-2 c =

@@ -1,6 +1,6 @@
 -- The invariant of both loops: what is found among all the rows is what is found among those that are left.
 use Rattle.writer.proofs.Search.{hit-triple, other-triple, miss, miss1, miss2, miss3, miss4, ended}
-use Rattle.writer.specs.Rows.{triple, rows, seekIn}
+use Rattle.writer.specs.Rows.{triple, tableRows, seekIn}
 use Prim.Native.Nat.{_+_, _*_, _-_}
 use mathlib.Core.Logic.{⊎-elim}
 use mathlib.Core.Path.{_≡_, refl, sym, _∙_}
@@ -10,13 +10,13 @@ use Rattle.writer.proofs.seek.Statement.{statement}
 use Rattle.writer.proofs.seek.Tie as tie
 
 abbrev Inv-fours : tie.InvT-fours
-Inv-fours tables start n a b p₀ left₀ p left = (p + 3 * left ≡ start + 3 * n) × (seekIn a b (rows triple tables start n) ≡ seekIn a b (rows triple tables p left))
+Inv-fours tables start n a b p₀ left₀ p left = (p + 3 * left ≡ start + 3 * n) × (seekIn a b (tableRows triple tables start n) ≡ seekIn a b (tableRows triple tables p left))
 
 abbrev μ-fours : tie.MeasureT-fours
 μ-fours tables start n a b p₀ left₀ p left = left
 
 abbrev Inv-loop : tie.InvT-loop
-Inv-loop tables start n a b p₀ left₀ p left = (p + 3 * left ≡ start + 3 * n) × (seekIn a b (rows triple tables start n) ≡ seekIn a b (rows triple tables p left))
+Inv-loop tables start n a b p₀ left₀ p left = (p + 3 * left ≡ start + 3 * n) × (seekIn a b (tableRows triple tables start n) ≡ seekIn a b (tableRows triple tables p left))
 
 abbrev μ-loop : tie.MeasureT-loop
 μ-loop tables start n a b p₀ left₀ p left = left

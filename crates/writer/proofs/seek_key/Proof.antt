@@ -1,6 +1,6 @@
 -- The invariant of both loops: what is found among all the rows is what is found among those that are left.
 use Rattle.writer.proofs.Search.{hit-pair, miss, miss1, miss2, miss3, miss4, ended}
-use Rattle.writer.specs.Rows.{pair, rows, seekIn}
+use Rattle.writer.specs.Rows.{pair, tableRows, seekIn}
 use Prim.Native.Nat.{_+_, _*_, _-_}
 use mathlib.Core.Path.{_≡_, refl, sym, _∙_}
 use native.Mathlib.Omega.{arith}
@@ -9,13 +9,13 @@ use Rattle.writer.proofs.seek_key.Statement.{statement}
 use Rattle.writer.proofs.seek_key.Tie as tie
 
 abbrev Inv-fours : tie.InvT-fours
-Inv-fours tables start n a p₀ left₀ p left = (p + 2 * left ≡ start + 2 * n) × (seekIn a 0 (rows pair tables start n) ≡ seekIn a 0 (rows pair tables p left))
+Inv-fours tables start n a p₀ left₀ p left = (p + 2 * left ≡ start + 2 * n) × (seekIn a 0 (tableRows pair tables start n) ≡ seekIn a 0 (tableRows pair tables p left))
 
 abbrev μ-fours : tie.MeasureT-fours
 μ-fours tables start n a p₀ left₀ p left = left
 
 abbrev Inv-rest : tie.InvT-rest
-Inv-rest tables start n a p₀ left₀ p left = (p + 2 * left ≡ start + 2 * n) × (seekIn a 0 (rows pair tables start n) ≡ seekIn a 0 (rows pair tables p left))
+Inv-rest tables start n a p₀ left₀ p left = (p + 2 * left ≡ start + 2 * n) × (seekIn a 0 (tableRows pair tables start n) ≡ seekIn a 0 (tableRows pair tables p left))
 
 abbrev μ-rest : tie.MeasureT-rest
 μ-rest tables start n a p₀ left₀ p left = left

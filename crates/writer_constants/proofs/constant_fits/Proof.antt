@@ -5,7 +5,7 @@ use borrow.Author.Needs.{needs}
 use Rattle.definition.specs.Sheet.{Expression, recordAt}
 use Rattle.definition.specs.Tests.{expressionTypes, below}
 use Rattle.records.specs.Places.{typesFrom}
-use Rattle.writer_constants.specs.Fitting.{Fits}
+use Rattle.writer_constants.specs.Fitting.{TestsConstant}
 use Rattle.writer_constants.proofs.Records.{is-taken}
 use Rattle.writer_constants.proofs.constant_fits.Statement.{statement}
 use Rattle.writer_constants.proofs.constant_fits.Tie as tie
@@ -17,8 +17,8 @@ expression-fits-requires c κs =
     let t = c .before .before .tag-of in
     let b = c .before .before .before .body-of in
     let e = c .before .expression-of in
-    let q = is-taken (a .n) (recordAt (a .rest .now)) (p .1 .0) (t .result) (b .result .now) (t .ensures) (b .ensures) (e .result) (e .ensures) in
-    (p .0, (subst (λ (x : Expression). below (a .n) (expressionTypes x) ≡ true) (sym q) (p .1 .0 .types), p .1 .1))
+    let q = is-taken (a .ntypes) (recordAt (a .rest .now)) (p .1 .0) (t .result) (b .result .now) (t .ensures) (b .ensures) (e .result) (e .ensures) in
+    (p .0, (subst (λ (x : Expression). below (a .ntypes) (expressionTypes x) ≡ true) (sym q) (p .1 .0 .types), p .1 .1))
 
 returns : tie.Need-returns
 returns c =
@@ -28,8 +28,8 @@ returns c =
     let b = c .before .before .before .before .before .before .body-of in
     let e = c .before .before .before .before .expression-of in
     let f = c .before .before .expression-fits in
-    let q = is-taken (a .n) (recordAt (a .rest .now)) (p .1 .0) (t .result) (b .result .now) (t .ensures) (b .ensures) (e .result) (e .ensures) in
-    (subst (λ (x : Expression). Fits (typesFrom (a .s .now) (a .types .now) (a .n)) x (a .w) (a .tables .now) (f .result)) q (f .ensures .0), f .ensures .1)
+    let q = is-taken (a .ntypes) (recordAt (a .rest .now)) (p .1 .0) (t .result) (b .result .now) (t .ensures) (b .ensures) (e .result) (e .ensures) in
+    (subst (λ (x : Expression). TestsConstant (typesFrom (a .sheet .now) (a .types .now) (a .ntypes)) x (a .w) (a .tables .now) (f .result)) q (f .ensures .0), f .ensures .1)
 
 pub constant-fits-spec : {M : Type 1} → statement M
 constant-fits-spec =

@@ -17,11 +17,11 @@ write-constant-expr-requires c κs =
     let t = c .before .before .before .tag-of in
     let b = c .before .before .before .before .body-of in
     let e = c .before .before .expression-of in
-    let q = is-taken (a .n) r (p .1 .0) (t .result) (b .result .now) (t .ensures) (b .ensures) (e .result) (e .ensures) in (
+    let q = is-taken (a .ntypes) r (p .1 .0) (t .result) (b .result .now) (t .ensures) (b .ensures) (e .result) (e .ensures) in (
       p .0,
       (
-        subst FewParts (sym q) (few (a .n) r (p .1 .0)),
-        subst (λ (x : Expression). Room (expressionCost x) (a .w) (a .tables .now) (a .sections .now)) (sym q) (roomy (a .n) r (p .1 .0) (a .w) (a .tables .now) (a .sections .now) (p .1 .1)),
+        subst FewParts (sym q) (few (a .ntypes) r (p .1 .0)),
+        subst (λ (x : Expression). Room (expressionCost x) (a .w) (a .tables .now) (a .sections .now)) (sym q) (roomy (a .ntypes) r (p .1 .0) (a .w) (a .tables .now) (a .sections .now) (p .1 .1)),
       ),
     )
 
@@ -34,9 +34,9 @@ returns c =
     let b = c .before .before .before .before .before .before .before .before .before .body-of in
     let e = c .before .before .before .before .before .before .before .expression-of in
     let x = c .before .before .before .before .write-constant-expr in
-    let q = is-taken (a .n) r (p .1 .0) (t .result) (b .result .now) (t .ensures) (b .ensures) (e .result) (e .ensures) in
-    let ts = typesFrom (a .s .now) (a .types .now) (a .n) in
-    written (a .n) r (p .1 .0) ts (a .w) (a .tables .now) (a .sections .now) (x .result) (x .last .0) (x .last .1 .0)
+    let q = is-taken (a .ntypes) r (p .1 .0) (t .result) (b .result .now) (t .ensures) (b .ensures) (e .result) (e .ensures) in
+    let ts = typesFrom (a .sheet .now) (a .types .now) (a .ntypes) in
+    written (a .ntypes) r (p .1 .0) ts (a .w) (a .tables .now) (a .sections .now) (x .result) (x .last .0) (x .last .1 .0)
     (subst (λ (y : Expression). ConstantWritten (expressionCost y) ts y (a .w) (a .tables .now) (a .sections .now) (x .result) (x .last .0) (x .last .1 .0)) q (x .ensures))
 
 pub write-constant-spec : {M : Type 1} → statement M

@@ -16,8 +16,8 @@ returns c =
     let a = c .before .before .before .before .before .before .before .before .before .before .before .before .before .before .before .before .args in
     let r = recordAt (a .rest .now) in
     let b = c .before .before .before .before .before .before .before .before .before .body-of in
-    let ts = typesFrom (a .s .now) (a .types .now) (a .k .types) in
-    let rs = map (remapFrom (a .s .now)) (take (a .k .remaps) (a .remaps .now)) in
+    let ts = typesFrom (a .sheet .now) (a .types .now) (a .counts .types) in
+    let rs = map (remapFrom (a .sheet .now)) (take (a .counts .remaps) (a .remaps .now)) in
     record-kept r (c .before .before .before .before .before .before .before .before .before .before .before .before .before .before .before .before .pre .2) (b .ensures) (as-read r (c .before .before .before .before .before .before .before .before .before .before .before .before .before .before .before .before .pre .2) (b .ensures) (c .before .before .before .before .before .before .before .before .global-of .result) (c .before .before .before .before .before .before .before .before .global-of .ensures)) (c .before .before .before .before .write-global-variable .ensures ts rs (a .options .zeroing) (c .before .before .before .before .before .before .before .plan-of .ensures (b .result .now)))
 
 pub write-global-spec : {M : Type 1} → statement M

@@ -13,7 +13,7 @@ stride-member-requires c κs = let m = c .before .before .before .before .before
 
 returns : tie.Need-returns
 returns c = let a = c .before .before .before .before .before .before .before .before .before .before .before .before .before .before .before .args in
-    member (a .id) (a .i) (a .offset) (a .named) (a .name .now) (numberOf (a .stride)) (c .before .before .before .before .before .before .before .before .before .before .member-decorate .ensures) (c .before .before .before .before .before .before .name-member .ensures) (c .before .before .stride-member .ensures)
+    member (a .id) (a .index) (a .offset) (a .named) (a .name .now) (numberOf (a .stride)) (c .before .before .before .before .before .before .before .before .before .before .member-decorate .ensures) (c .before .before .before .before .before .before .name-member .ensures) (c .before .before .stride-member .ensures)
 
 pub decorate-struct-member-spec : {M : Type 1} → statement M
 decorate-struct-member-spec =

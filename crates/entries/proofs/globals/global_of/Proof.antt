@@ -12,7 +12,7 @@ use Rattle.entries.proofs.globals.global_of.Tie as tie
 returns : tie.Need-returns
 unfolding globalFields
 returns c = rw (← c .before .before .before .before .before .before .before .name-end .ensures .0) (λ h.
-    let b = now (c .before .before .before .before .before .before .before .before .before .args .b) in
+    let b = now (c .before .before .before .before .before .before .before .before .before .args .body) in
     let n = c .before .before .before .before .before .before .before .name-end .result in
     let z = both (spaceFits (u8At b (n + 2)) (u8At b (n + 3))) (bindingFits (globalFields b n .value)) h in
     let s = c .before .before .before .before .space-of .ensures (rw (c .before .before .before .before .before .before .u8-at .ensures, c .before .before .before .before .before .u8-at2 .ensures) (z .0)) in

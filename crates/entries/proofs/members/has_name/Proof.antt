@@ -22,9 +22,9 @@ returns : tie.Need-returns
 unfolding nameAt
 returns c =
     let a = c .before .before .args in
-    let b = now (a .b) in
-    let n = getD b (a .i) 0 in
-    rw (c .u8-at .ensures) (picked (eqb n 255) (take n (drop (a .i + 1) b)))
+    let b = now (a .body) in
+    let n = getD b (a .index) 0 in
+    rw (c .u8-at .ensures) (picked (eqb n 255) (take n (drop (a .index + 1) b)))
 
 pub has-name-spec : {M : Type 1} → statement M
 has-name-spec = tie.close (tie.spec (λ c κs. search needs) returns)

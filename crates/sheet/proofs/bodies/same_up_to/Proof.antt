@@ -25,7 +25,7 @@ abbrev left : tie.In-loop Inv-loop μ-loop → List ℕ
 left c = now (c .before .before .before .before .args .a)
 
 abbrev right : tie.In-loop Inv-loop μ-loop → List ℕ
-right c = now (c .before .before .before .before .args .b)
+right c = now (c .before .before .before .before .args .body)
 
 -- n bytes that differ, and n that do not
 differs : (c : tie.In-loop Inv-loop μ-loop) (n : ℕ) → n ≤ c .before .loop .j
@@ -60,7 +60,7 @@ loop-again-3 : tie.Need-loop-again-3 Inv-loop μ-loop
 loop-again-3 c = (search needs, goes-on (c .before .before .before .before .before) 1 (omega arith) (one _ _ ∙ c .if5 .left ∙ sym (one _ _)))
 
 returns-4 : tie.Need-returns-4 Inv-loop μ-loop
-returns-4 c = let a = c .before .before .before .before .args in sym (c .before .loop .inv .1 ∙ shorter (now (a .a)) (now (a .b)) (c .before .loop .j) (a .p) (c .loop-test .left) (c .before .before .before .before .pre .1 .1))
+returns-4 c = let a = c .before .before .before .before .args in sym (c .before .loop .inv .1 ∙ shorter (now (a .a)) (now (a .body)) (c .before .loop .j) (a .p) (c .loop-test .left) (c .before .before .before .before .pre .1 .1))
 
 pub same-up-to-spec : {M : Type 1} → statement M
 same-up-to-spec =

@@ -23,18 +23,18 @@ loop-holds c = (search needs, refl)
 
 returns : tie.Need-returns Inv-loop μ-loop
 returns c =
-    let b = now (c .before .before .before .before .before .args .b) in
+    let b = now (c .before .before .before .before .before .args .body) in
     let l = c .before .before .before .loop in
     sym (l .inv .1 ∙ each-no (names b) (l .p) (l .k) (c .before .before .loop-test .taken) (sym (c .before .name-fits .ensures) ∙ not-true _ (c .if1 .taken)))
 
 loop-again : tie.Need-loop-again Inv-loop μ-loop
 loop-again c =
-    let b = now (c .before .before .before .before .before .before .args .b) in
+    let b = now (c .before .before .before .before .before .before .args .body) in
     let l = c .before .before .before .before .loop in
     (search needs, l .inv .1 ∙ each-yes (names b) (l .p) (l .k) (c .before .before .before .loop-test .taken) (sym (c .before .before .name-fits .ensures) ∙ not-false _ (c .before .if1 .left)) ∙ cc)
 
 returns-2 : tie.Need-returns-2 Inv-loop μ-loop
-returns-2 c = let l = c .before .loop in sym (l .inv .1 ∙ each-end (names (now (c .before .before .before .args .b))) (l .p) (l .k) (c .loop-test .left))
+returns-2 c = let l = c .before .loop in sym (l .inv .1 ∙ each-end (names (now (c .before .before .before .args .body))) (l .p) (l .k) (c .loop-test .left))
 
 pub names-fit-spec : {M : Type 1} → statement M
 names-fit-spec =

@@ -24,19 +24,19 @@ returns : tie.Need-returns Inv-loop μ-loop
 returns c =
     let a = c .before .before .before .before .before .args in
     let l = c .before .before .before .loop in
-    sym (l .inv .1 ∙ each-no (walk (now (a .b)) (λ x. ltb x (a .types))) (l .p) (l .k) (c .before .before .loop-test .taken) (simp (← c .before .u16-at .ensures) (le-ltb _ _ (c .if1 .taken))))
+    sym (l .inv .1 ∙ each-no (walk (now (a .body)) (λ x. ltb x (a .types))) (l .p) (l .k) (c .before .before .loop-test .taken) (simp (← c .before .u16-at .ensures) (le-ltb _ _ (c .if1 .taken))))
 
 loop-again : tie.Need-loop-again Inv-loop μ-loop
 loop-again c =
     let a = c .before .before .before .before .before .before .args in
     let l = c .before .before .before .before .loop in
-    (search needs, l .inv .1 ∙ each-yes (walk (now (a .b)) (λ x. ltb x (a .types))) (l .p) (l .k) (c .before .before .before .loop-test .taken) (simp (← c .before .before .u16-at .ensures) (lt-ltb _ _ (c .before .if1 .left))) ∙ cc)
+    (search needs, l .inv .1 ∙ each-yes (walk (now (a .body)) (λ x. ltb x (a .types))) (l .p) (l .k) (c .before .before .before .loop-test .taken) (simp (← c .before .before .u16-at .ensures) (lt-ltb _ _ (c .before .if1 .left))) ∙ cc)
 
 returns-2 : tie.Need-returns-2 Inv-loop μ-loop
 returns-2 c =
     let a = c .before .before .before .args in
     let l = c .before .loop in
-    sym (l .inv .1 ∙ each-end (walk (now (a .b)) (λ x. ltb x (a .types))) (l .p) (l .k) (c .loop-test .left))
+    sym (l .inv .1 ∙ each-end (walk (now (a .body)) (λ x. ltb x (a .types))) (l .p) (l .k) (c .loop-test .left))
 
 pub read-already-spec : {M : Type 1} → statement M
 read-already-spec =

@@ -7,10 +7,10 @@ use Rattle.type_facts.proofs.facets.stride_in.Statement.{statement}
 use Rattle.type_facts.proofs.facets.stride_in.Tie as tie
 
 returns : tie.Need-returns
-returns c = no-stride (c .before .args .f) (c .match .keys2)
+returns c = no-stride (c .before .args .facet) (c .match .keys2)
 
 returns-2 : tie.Need-returns-2
-returns-2 c = sym (ap strideIn (c .before .f .given .1))
+returns-2 c = sym (ap strideIn (c .before .facet .given .1))
 
 pub stride-in-spec : {M : Type 1} → statement M
 stride-in-spec = tie.close (tie.spec (λ c. search needs) returns returns-2)

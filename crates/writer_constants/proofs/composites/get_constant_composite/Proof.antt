@@ -35,7 +35,7 @@ returns c =
     let a = c .before .before .before .before .before .before .before .before .args in
     let k = c .before .before .before .before .before .key in
     let x = c .before .before .before .find-composite in
-    composite-old (keyOf (a .t)) (k .ensures .1) (k .result) (k .ensures .0) (a .n) (a .w) (a .tables .now) (a .sections .now) (x .result) (x .ensures) (c .before .id .given .0 .0) (c .before .id .given .1)
+    composite-old (keyOf (a .ty)) (k .ensures .1) (k .result) (k .ensures .0) (a .n) (a .w) (a .tables .now) (a .sections .now) (x .result) (x .ensures) (c .before .id .given .0 .0) (c .before .id .given .1)
 
 returns-2 : tie.Need-returns-2
 returns-2 c =
@@ -46,7 +46,7 @@ returns-2 c =
     let f = c .before .before .before .before .before .before .before .before .before .before .before .before .before .get-type-id in
     let d = c .before .before .before .before .before .before .declare-composite in
     let u = c .before .before .enter-composite in
-    composite-new (keyOf (a .t)) (k .ensures .1) (k .result) (k .ensures .0) (a .n) (a .w) (a .tables .now) (a .sections .now) (x .result) (x .ensures) (c .before .before .before .before .before .before .before .before .before .before .before .before .before .before .before .before .before .enum-told .given .1)
+    composite-new (keyOf (a .ty)) (k .ensures .1) (k .result) (k .ensures .0) (a .n) (a .w) (a .tables .now) (a .sections .now) (x .result) (x .ensures) (c .before .before .before .before .before .before .before .before .before .before .before .before .before .before .before .before .before .enum-told .given .1)
     (m .result) (m .ensures) (f .result) (f .last .0) (f .last .1 .0) (f .kept .0) (f .ensures) (d .result) (d .last .1 .0) (d .ensures) (u .result) (u .last .0) (u .ensures)
 
 pub get-constant-composite-spec : {M : Type 1} → statement M

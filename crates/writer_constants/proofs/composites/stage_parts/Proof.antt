@@ -22,7 +22,7 @@ abbrev μ-loop : tie.MeasureT-loop
 μ-loop tables₀ w b n i₀ tables i = n - i
 
 loop-holds : tie.Need-loop-holds Inv-loop μ-loop
-loop-holds c = let a = c .before .before .args in (omega arith, refl, parts-none (a .w) (a .tables .now) (a .b .now))
+loop-holds c = let a = c .before .before .args in (omega arith, refl, parts-none (a .w) (a .tables .now) (a .body .now))
 
 loop-again : tie.Need-loop-again Inv-loop μ-loop
 loop-again c =
@@ -33,7 +33,7 @@ loop-again c =
       omega arith,
       ap length (p .ensures) ∙ splice-length (l .tables) (waiting (a .w) + l .i) (v .result .id ∷ []) (omega arith) ∙ l .inv .1,
       p .ensures ∙ ap (λ (z : List ℕ). splice z (waiting (a .w) + l .i) (v .result .id ∷ [])) (l .inv .2)
-          ∙ parts-more (a .w) (a .tables .now) (a .b .now) (a .n) (l .i) (v .result .id) (waiting (a .w) + l .i) (c .before .before .before .before .before .before .before .before .before .before .before .pre .1) (omega arith) refl (v .ensures .named ∙ (λ j. idIn (a .w) (l .inv .2 j) (c .before .before .before .before .before .u16-at .ensures j))),
+          ∙ parts-more (a .w) (a .tables .now) (a .body .now) (a .n) (l .i) (v .result .id) (waiting (a .w) + l .i) (c .before .before .before .before .before .before .before .before .before .before .before .pre .1) (omega arith) refl (v .ensures .named ∙ (λ j. idIn (a .w) (l .inv .2 j) (c .before .before .before .before .before .u16-at .ensures j))),
     )
 
 same-length : tie.Need-same-length Inv-loop μ-loop
@@ -44,9 +44,9 @@ returns c =
     let a = c .before .before .before .before .args in
     let l = c .before .loop in
     let e : l .i ≡ a .n = omega arith in
-    let cs = u16sAt (a .b .now) 4 (a .n) in
-    staged (a .w) (a .tables .now) (idsIn (a .w) (a .tables .now) cs) (a .n) (parts-length (a .w) (a .tables .now) (a .b .now) (a .n)) (c .before .before .before .before .pre .1) (λ s. idsOf s cs) (λ S s h. ids-held (a .w) (a .tables .now) S s h cs)
-    (l .tables) (l .inv .2 ∙ ap (λ (j : ℕ). splice (a .tables .now) (waiting (a .w)) (idsIn (a .w) (a .tables .now) (u16sAt (a .b .now) 4 j))) e)
+    let cs = u16sAt (a .body .now) 4 (a .n) in
+    staged (a .w) (a .tables .now) (idsIn (a .w) (a .tables .now) cs) (a .n) (parts-length (a .w) (a .tables .now) (a .body .now) (a .n)) (c .before .before .before .before .pre .1) (λ s. idsOf s cs) (λ S s h. ids-held (a .w) (a .tables .now) S s h cs)
+    (l .tables) (l .inv .2 ∙ ap (λ (j : ℕ). splice (a .tables .now) (waiting (a .w)) (idsIn (a .w) (a .tables .now) (u16sAt (a .body .now) 4 j))) e)
 
 pub stage-parts-spec : {M : Type 1} → statement M
 stage-parts-spec =

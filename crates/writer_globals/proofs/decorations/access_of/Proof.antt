@@ -9,12 +9,12 @@ use Rattle.writer_globals.proofs.decorations.access_of.Tie as tie
 returns : tie.Need-returns
 returns c =
     let a = c .before .before .before .before .before .args in
-    λ b. other-access (typesFrom (a .s .now) (a .types .now) (a .n)) (a .g) b (not-storage (a .g .space) (c .before .before .match .keys2)) (c .image-access .ensures)
+    λ b. other-access (typesFrom (a .sheet .now) (a .types .now) (a .ntypes)) (a .global) b (not-storage (a .global .space) (c .before .before .match .keys2)) (c .image-access .ensures)
 
 returns-2 : tie.Need-returns-2
 returns-2 c =
     let a = c .before .before .before .before .before .args in
-    λ b. storage-access (typesFrom (a .s .now) (a .types .now) (a .n)) (a .g) b (c .before .space .given .1)
+    λ b. storage-access (typesFrom (a .sheet .now) (a .types .now) (a .ntypes)) (a .global) b (c .before .space .given .1)
 
 pub access-of-spec : {M : Type 1} → statement M
 access-of-spec =

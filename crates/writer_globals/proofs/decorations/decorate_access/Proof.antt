@@ -19,7 +19,7 @@ returns-2 c =
     let c₂ = c₁ .before .before .before in
     let c₃ = c₂ .before .before .before in
     let a = c₃ .args in
-    both-ways (a .id) (c₂ .a .given .0 .0) (c₁ .decorate-if .ensures) (c .before .before .decorate-if2 .ensures) (byteOf (a .a)) (ap byteOf (c₂ .a .given .1))
+    both-ways (a .id) (c₂ .access .given .0 .0) (c₁ .decorate-if .ensures) (c .before .before .decorate-if2 .ensures) (byteOf (a .access)) (ap byteOf (c₂ .access .given .1))
 
 pub decorate-access-spec : {M : Type 1} → statement M
 decorate-access-spec =

@@ -12,11 +12,11 @@ use Rattle.writer_globals.proofs.decorations.name_global.Tie as tie
 
 returns : tie.Need-returns
 returns c = let a = c .before .before .before .args in
-    still (naming (nameEnd (a .b .now) 0 + 2)) (a .w) (a .sections .now) (unnamed (a .debug) (a .id) (a .b .now) (not-true (a .debug) (c .if1 .taken)))
+    still (naming (nameEnd (a .body .now) 0 + 2)) (a .w) (a .sections .now) (unnamed (a .debug) (a .id) (a .body .now) (not-true (a .debug) (c .if1 .taken)))
 
 returns-2 : tie.Need-returns-2
 returns-2 c = let a = c .before .before .before .before .before .args in
-    still (naming (nameEnd (a .b .now) 0 + 2)) (a .w) (a .sections .now) (nameless (a .debug) (a .id) (a .b .now) (not-false (a .debug) (c .before .before .if1 .left)) (c .before .u8-at .ensures) (c .if2 .taken))
+    still (naming (nameEnd (a .body .now) 0 + 2)) (a .w) (a .sections .now) (nameless (a .debug) (a .id) (a .body .now) (not-false (a .debug) (c .before .before .if1 .left)) (c .before .u8-at .ensures) (c .if2 .taken))
 
 label-requires : tie.Need-label-requires
 label-requires c κs =
@@ -24,7 +24,7 @@ label-requires c κs =
     let c₂ = c₁ .before in
     let c₃ = c₂ .before .before .before in
     let a = c₃ .args in
-    let q = short (a .debug) (a .id) (a .b .now) (not-false (a .debug) (c₂ .if1 .left)) (c₁ .u8-at .ensures) (c .before .before .if2 .left) (c .part .ensures) in
+    let q = short (a .debug) (a .id) (a .body .now) (not-false (a .debug) (c₂ .if1 .left)) (c₁ .u8-at .ensures) (c .before .before .if2 .left) (c .part .ensures) in
     (omega (arith, q .0, c₃ .fits, c .before .before .if2 .left), omega (arith, q .0, q .1, c₃ .pre))
 
 returns-3 : tie.Need-returns-3
@@ -35,7 +35,7 @@ returns-3 c =
     let c₄ = c₃ .before in
     let c₅ = c₄ .before .before .before in
     let a = c₅ .args in
-    labelled (a .debug) (a .id) (a .b .now) (not-false (a .debug) (c₄ .if1 .left)) (c₃ .u8-at .ensures) (c₂ .if2 .left) (c₁ .part .ensures) (c .before .before .label .ensures)
+    labelled (a .debug) (a .id) (a .body .now) (not-false (a .debug) (c₄ .if1 .left)) (c₃ .u8-at .ensures) (c₂ .if2 .left) (c₁ .part .ensures) (c .before .before .label .ensures)
 
 pub name-global-spec : {M : Type 1} → statement M
 name-global-spec =

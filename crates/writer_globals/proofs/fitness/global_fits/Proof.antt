@@ -4,7 +4,7 @@ use native.Mathlib.Omega.{arith}
 use borrow.Author.Needs.{needs}
 use Rattle.definition.specs.Sheet.{Global, recordAt}
 use Rattle.records.specs.Places.{typesFrom}
-use Rattle.writer_globals.specs.Fitness.{Judged}
+use Rattle.writer_globals.specs.Fitness.{TestsGlobal}
 use Rattle.writer_globals.proofs.Whole.{as-read}
 use Rattle.writer_globals.proofs.fitness.global_fits.Statement.{statement}
 use Rattle.writer_globals.proofs.fitness.global_fits.Tie as tie
@@ -25,7 +25,7 @@ returns c =
     let c₃ = c₂ .before .before .before .before .before .before in
     let a = c₃ .args in
     let e = as-read (recordAt (a .rest .now)) (c₃ .pre .1) (c₂ .body-of .ensures) (c₁ .global-of .result) (c₁ .global-of .ensures) in
-    subst (λ (g : Global). Judged (typesFrom (a .s .now) (a .types .now) (a .n)) g (a .w) (a .tables .now) (c .before .before .variable-fits .result) (c .before .before .variable-fits .last .1 .1 .1 .1 .1 .0)) e (c .before .before .variable-fits .ensures (c₂ .body-of .result .now))
+    subst (λ (g : Global). TestsGlobal (typesFrom (a .sheet .now) (a .types .now) (a .ntypes)) g (a .w) (a .tables .now) (c .before .before .variable-fits .result) (c .before .before .variable-fits .last .1 .1 .1 .1 .1 .0)) e (c .before .before .variable-fits .ensures (c₂ .body-of .result .now))
 
 pub global-fits-spec : {M : Type 1} → statement M
 global-fits-spec =

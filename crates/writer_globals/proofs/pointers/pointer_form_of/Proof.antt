@@ -13,9 +13,9 @@ use Rattle.writer_globals.proofs.pointers.pointer_form_of.Tie as tie
 
 returns : tie.Need-returns
 returns c = let a = c .before .before .before .before .before .before .before .args in
-    let ts = typesFrom (a .s .now) (a .types .now) (a .n) in
-    let rs = map (remapFrom (a .s .now)) (take (a .m) (a .remaps .now)) in
-    λ b x. is-wrapped ts rs (a .g) b x (sym (c .before .before .global-needs-wrapper .ensures (globalOf b (a .g)) refl refl) ∙ c .before .if1 .taken) (c .element-stride .result) (c .element-stride .ensures)
+    let ts = typesFrom (a .sheet .now) (a .types .now) (a .ntypes) in
+    let rs = map (remapFrom (a .sheet .now)) (take (a .nremaps) (a .remaps .now)) in
+    λ b x. is-wrapped ts rs (a .global) b x (sym (c .before .before .global-needs-wrapper .ensures (globalOf b (a .global)) refl refl) ∙ c .before .if1 .taken) (c .element-stride .result) (c .element-stride .ensures)
 
 returns-2 : tie.Need-returns-2
 returns-2 c =
@@ -23,9 +23,9 @@ returns-2 c =
     let c₂ = c₁ .before in
     let c₃ = c₂ .before .before .before .before .before in
     let a = c₃ .args in
-    let ts = typesFrom (a .s .now) (a .types .now) (a .n) in
-    let rs = map (remapFrom (a .s .now)) (take (a .m) (a .remaps .now)) in
-    λ b x. no-array ts rs (a .g) b x (sym (c₂ .global-needs-wrapper .ensures (globalOf b (a .g)) refl refl) ∙ c₁ .if1 .left) (sym (ap indexOf (c .enum-told .given .1)) ∙ c .before .before .binding-base .ensures)
+    let ts = typesFrom (a .sheet .now) (a .types .now) (a .ntypes) in
+    let rs = map (remapFrom (a .sheet .now)) (take (a .nremaps) (a .remaps .now)) in
+    λ b x. no-array ts rs (a .global) b x (sym (c₂ .global-needs-wrapper .ensures (globalOf b (a .global)) refl refl) ∙ c₁ .if1 .left) (sym (ap indexOf (c .enum-told .given .1)) ∙ c .before .before .binding-base .ensures)
 
 returns-3 : tie.Need-returns-3
 returns-3 c =
@@ -35,9 +35,9 @@ returns-3 c =
     let c₄ = c₃ .before in
     let c₅ = c₄ .before .before .before .before .before in
     let a = c₅ .args in
-    let ts = typesFrom (a .s .now) (a .types .now) (a .n) in
-    let rs = map (remapFrom (a .s .now)) (take (a .m) (a .remaps .now)) in
-    λ b x. not-remapped ts rs (a .g) b x (sym (c₄ .global-needs-wrapper .ensures (globalOf b (a .g)) refl refl) ∙ c₃ .if1 .left) (sym (ap indexOf (c₁ .base .given .1)) ∙ c₂ .binding-base .ensures) (sym (ap numberOf (c .enum-told2 .given .1)) ∙ c .before .before .remapped-size .ensures)
+    let ts = typesFrom (a .sheet .now) (a .types .now) (a .ntypes) in
+    let rs = map (remapFrom (a .sheet .now)) (take (a .nremaps) (a .remaps .now)) in
+    λ b x. not-remapped ts rs (a .global) b x (sym (c₄ .global-needs-wrapper .ensures (globalOf b (a .global)) refl refl) ∙ c₃ .if1 .left) (sym (ap indexOf (c₁ .base .given .1)) ∙ c₂ .binding-base .ensures) (sym (ap numberOf (c .enum-told2 .given .1)) ∙ c .before .before .remapped-size .ensures)
 
 returns-4 : tie.Need-returns-4
 returns-4 c =
@@ -48,9 +48,9 @@ returns-4 c =
     let c₅ = c₄ .before in
     let c₆ = c₅ .before .before .before .before .before in
     let a = c₆ .args in
-    let ts = typesFrom (a .s .now) (a .types .now) (a .n) in
-    let rs = map (remapFrom (a .s .now)) (take (a .m) (a .remaps .now)) in
-    λ b x. is-remapped ts rs (a .g) b x (sym (c₅ .global-needs-wrapper .ensures (globalOf b (a .g)) refl refl) ∙ c₄ .if1 .left) (sym (ap indexOf (c₂ .base .given .1)) ∙ c₃ .binding-base .ensures) (sym (ap numberOf (c .before .size .given .1)) ∙ c₁ .remapped-size .ensures)
+    let ts = typesFrom (a .sheet .now) (a .types .now) (a .ntypes) in
+    let rs = map (remapFrom (a .sheet .now)) (take (a .nremaps) (a .remaps .now)) in
+    λ b x. is-remapped ts rs (a .global) b x (sym (c₅ .global-needs-wrapper .ensures (globalOf b (a .global)) refl refl) ∙ c₄ .if1 .left) (sym (ap indexOf (c₂ .base .given .1)) ∙ c₃ .binding-base .ensures) (sym (ap numberOf (c .before .size .given .1)) ∙ c₁ .remapped-size .ensures)
 
 pub pointer-form-of-spec : {M : Type 1} → statement M
 pointer-form-of-spec =

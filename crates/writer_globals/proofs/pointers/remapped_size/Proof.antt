@@ -10,7 +10,7 @@ use Rattle.writer_globals.proofs.pointers.remapped_size.Tie as tie
 
 returns-2 : tie.Need-returns-2
 returns-2 c = let a = c .before .before .before .before .before .before .args in
-    c .remap-of .ensures ∙ sym (ap (sizeFor (map (remapFrom (a .s .now)) (take (a .m) (a .remaps .now)))) (c .before .before .binding .given .1))
+    c .remapped-size-of .ensures ∙ sym (ap (sizeFor (map (remapFrom (a .s .now)) (take (a .m) (a .remaps .now)))) (c .before .before .binding .given .1))
 
 pub remapped-size-spec : {M : Type 1} → statement M
 remapped-size-spec =

@@ -16,7 +16,7 @@ abbrev μ-loop : tie.MeasureT-loop
 loop-holds : tie.Need-loop-holds Inv-loop μ-loop
 loop-holds c = let a = c .before .before .before .before .before .before .before .args in
     let x = c .before .before .type-struct-head in
-    headed (a .b .now) (a .tables .now) (a .id) (a .first) (a .count) (omega (arith, c .before .before .before .before .before .before .before .fits)) (a .w) (a .sections .now) (x .last .0) (x .ensures)
+    headed (a .body .now) (a .tables .now) (a .id) (a .first) (a .count) (omega (arith, c .before .before .before .before .before .before .before .fits)) (a .w) (a .sections .now) (x .last .0) (x .ensures)
 
 loop-again : tie.Need-loop-again Inv-loop μ-loop
 loop-again c = let a = c .before .before .before .before .before .before .before .before .before .before .before .before .before .before .before .before .before .args in
@@ -27,7 +27,7 @@ loop-again c = let a = c .before .before .before .before .before .before .before
     let z = c .before .before .before .before .low-word in
     let d = c .before .before .before .put-pending in
     let e = c .name-end in
-    next (a .b .now) (a .tables .now) (a .id) (a .first) (a .count) (omega (arith, c .before .before .before .before .before .before .before .before .before .before .before .before .before .before .before .before .before .fits)) (a .w) (y .last .0) (l .sections) (l .p) (l .k) (l .j) (l .inv) (c .before .before .before .before .before .before .before .before .loop-test .taken)
+    next (a .body .now) (a .tables .now) (a .id) (a .first) (a .count) (omega (arith, c .before .before .before .before .before .before .before .before .before .before .before .before .before .before .before .before .before .fits)) (a .w) (y .last .0) (l .sections) (l .p) (l .k) (l .j) (l .inv) (c .before .before .before .before .before .before .before .before .loop-test .taken)
     (t .result) (x .result) (z .result) (e .result) (t .ensures) (x .ensures) (z .ensures) (e .ensures .0) (omega (arith, e .ensures .1)) (d .last .0) (d .ensures) (d .kept .0)
 
 same-length : tie.Need-same-length Inv-loop μ-loop
@@ -38,7 +38,7 @@ returns c = let a = c .before .before .before .before .before .before .before .b
     let y = c .before .before .before .before .before .type-struct-head in
     let l = c .before .before .loop in
     let d = c .commit in
-    let r = ended (a .b .now) (a .tables .now) (a .id) (a .first) (a .count) (omega (arith, c .before .before .before .before .before .before .before .before .before .before .fits)) (a .w) (y .last .0) (l .sections) (l .p) (l .k) (l .j) (l .inv) (omega (arith, c .before .loop-test)) (d .result) (d .ensures) in
+    let r = ended (a .body .now) (a .tables .now) (a .id) (a .first) (a .count) (omega (arith, c .before .before .before .before .before .before .before .before .before .before .fits)) (a .w) (y .last .0) (l .sections) (l .p) (l .k) (l .j) (l .inv) (omega (arith, c .before .loop-test)) (d .result) (d .ensures) in
     record { grown = r .grown; held = λ s h. r .held s (y .ensures .still (a .tables .now) s h) }
 
 pub put-struct-spec : {M : Type 1} → statement M

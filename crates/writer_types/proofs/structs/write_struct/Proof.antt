@@ -12,7 +12,7 @@ put-struct-requires c κs = let a = c .before .before .before .before .before .b
     let p = c .before .before .before .before .before .before .before .before .before .before .before .before .before .before .before .pre in
     let x = c .before .before .before .before .before .before .before .before .decorate-struct-members in
     let y = c .before .before .before .block-if in
-    let l = members-length (a .b .now) (a .first) (a .count) in
+    let l = members-length (a .body .now) (a .first) (a .count) in
     (p .1 .0, (omega (arith, x .ensures .grown, y .ensures .grown, p .1 .1 .rows), omega (arith, l, x .ensures .grown, x .kept, y .ensures .grown, y .kept, p .1 .1 .words)))
 
 returns : tie.Need-returns
@@ -21,7 +21,7 @@ returns c = let a = c .before .before .before .before .before .before .before .b
     let d = c .before .before .before .before .before .before .before .before .has-runtime-array in
     let y = c .before .before .before .before .before .before .block-if in
     let z = c .before .before .put-struct in
-    declared (a .debug) (typesFrom (a .s .now) (a .types .now) (a .n)) (a .id) (a .b .now) (a .first) (a .count) (a .w) (a .tables .now) (a .sections .now)
+    declared (a .debug) (typesFrom (a .sheet .now) (a .types .now) (a .ntypes)) (a .id) (a .body .now) (a .first) (a .count) (a .w) (a .tables .now) (a .sections .now)
     (x .result) (x .last .0) (x .ensures) (d .result) (d .ensures) (y .result) (y .last .0) (y .ensures) (z .result) (z .last .1 .0) (z .ensures)
 
 pub write-struct-spec : {M : Type 1} → statement M

@@ -4,8 +4,8 @@ use denote.Ref.{now}
 use mathlib.Core.Path.{sym, _∙_}
 use native.Mathlib.Omega.{arith}
 use borrow.Author.Needs.{needs}
-use Rattle.sheet_writer.proofs.record_turn.Statement.{statement}
-use Rattle.sheet_writer.proofs.record_turn.Tie as tie
+use Rattle.sheet_writer.proofs.write_record.Statement.{statement}
+use Rattle.sheet_writer.proofs.write_record.Tie as tie
 
 returns : tie.Need-returns
 returns c = let a = c .before .before .before .before .before .before .before .before .before .args in let r = c .before .record-test in
@@ -31,8 +31,8 @@ returns-3 c = let a = c .before .before .before .before .before .before .before 
 record-test-requires : tie.Need-record-test-requires
 record-test-requires c κs = (c .before .before .before .before .before .before .before .pre .stored, c .before .before .before .before .before .before .before .pre .hash)
 
-pub record-turn-spec : {M : Type 1} → statement M
-record-turn-spec =
+pub write-record-spec : {M : Type 1} → statement M
+write-record-spec =
     tie.close
     (tie.spec record-test-requires returns fitness-test-requires (λ c. search needs) (λ c. search needs) returns-2
     write-entry-requires (λ c. search needs) (λ c. search needs) (λ c. search needs) returns-3)

@@ -9,8 +9,8 @@ use lib.Seq.{sets, length-sets}
 use borrow.Author.Needs.{needs}
 use Rattle.printing.proofs.Lines.{one-line, all-lines}
 use Rattle.printing.specs.Text.{linesOf, lineOf}
-use Rattle.printing.proofs.put_words.Statement.{statement}
-use Rattle.printing.proofs.put_words.Tie as tie
+use Rattle.printing.proofs.put_lines.Statement.{statement}
+use Rattle.printing.proofs.put_lines.Tie as tie
 
 abbrev Inv-loop : tie.InvT-loop
 Inv-loop text₀ words n i₀ text i = (i ≤ n) × (text ≡ sets text₀ 0 (linesOf (take i words))) × (length text ≡ length text₀)
@@ -29,10 +29,10 @@ loop-again c =
     let a = p .before .before .before .before .before .before .before .args in
     let w = getD (a .words .now) (l .i) 0 in (
       omega arith,
-      p .put-word .ensures
+      p .put-line .ensures
           ∙ ap (λ (z : List ℕ). sets z (9 * l .i) (lineOf w)) (l .inv .1)
           ∙ one-line (a .text .now) (a .words .now) (l .i) (omega arith),
-      ap length (p .put-word .ensures) ∙ length-sets (l .text) (9 * l .i) (lineOf w) ∙ l .inv .2,
+      ap length (p .put-line .ensures) ∙ length-sets (l .text) (9 * l .i) (lineOf w) ∙ l .inv .2,
     )
 
 returns : tie.Need-returns Inv-loop μ-loop
@@ -41,8 +41,8 @@ returns c =
     let a = c .before .before .before .before .args in
     (all-lines (a .text .now) (a .words .now) (l .text) (l .i) (a .n) (l .inv .1) (omega arith) (omega arith) (omega arith), refl)
 
-pub put-words-spec : {M : Type 1} → statement M
-put-words-spec =
+pub put-lines-spec : {M : Type 1} → statement M
+put-lines-spec =
     tie.close
     (tie.spec
     Inv-loop

@@ -4,11 +4,11 @@ use Prim.Native.Nat.{ℕ, _%_}
 use mathlib.Core.Path.{ap, _∙_}
 use borrow.Author.Needs.{needs}
 use Rattle.literals.proofs.Signed.{handed}
-use Rattle.literals.proofs.low_word.Statement.{statement}
-use Rattle.literals.proofs.low_word.Tie as tie
+use Rattle.literals.proofs.first_word.Statement.{statement}
+use Rattle.literals.proofs.first_word.Tie as tie
 
-pub low-word-spec : {M : Type 1} → statement M
-low-word-spec =
+pub first-word-spec : {M : Type 1} → statement M
+first-word-spec =
     tie.close
     (tie.spec
     (λ c. search needs)
@@ -23,10 +23,10 @@ low-word-spec =
     (λ c. search needs)
     (λ c κs. search needs)
     (λ c. search needs)
-    (λ c. simp (c .before .before .before .l .given .1) (c .low-half .ensures ∙ ap (λ (n : ℕ). n % 4294967296) (c .before .pattern64 .ensures)))
-    (λ c. simp (c .before .before .l2 .given .1) (c .pattern32 .ensures))
-    (λ c. simp (c .before .before .l3 .given .1) (c .low-half2 .ensures))
+    (λ c. simp (c .before .before .before .value .given .1) (c .low-half .ensures ∙ ap (λ (n : ℕ). n % 4294967296) (c .before .pattern64 .ensures)))
+    (λ c. simp (c .before .before .value2 .given .1) (c .pattern32 .ensures))
+    (λ c. simp (c .before .before .value3 .given .1) (c .low-half2 .ensures))
     (λ c. search needs)
     (λ c. search needs)
-    (λ c. simp (c .before .before .l6 .given .1) (handed (c .before .before .l6 .given .0 .0) _ (search needs) (c .two-complement .ensures)))
+    (λ c. simp (c .before .before .value6 .given .1) (handed (c .before .before .value6 .given .0 .0) _ (search needs) (c .two-complement .ensures)))
     (λ c. search needs))

@@ -1,7 +1,7 @@
 -- `put_answer`: either word's bytes are the definition's line.
 use borrow.Author.Needs.{needs}
-use Rattle.printing.proofs.put_answer.Statement.{statement}
-use Rattle.printing.proofs.put_answer.Tie as tie
+use Rattle.printing.proofs.put_yes_or_no.Statement.{statement}
+use Rattle.printing.proofs.put_yes_or_no.Tie as tie
 
 returns : tie.Need-returns
 returns c = rw (c .before .before .before .before .before .if1 .taken) (c .before .before .put-bytes .ensures)
@@ -9,8 +9,8 @@ returns c = rw (c .before .before .before .before .before .if1 .taken) (c .befor
 returns-2 : tie.Need-returns-2
 returns-2 c = rw (c .before .before .before .before .before .if1 .left) (c .before .before .put-bytes2 .ensures)
 
-pub put-answer-spec : {M : Type 1} → statement M
-put-answer-spec =
+pub put-yes-or-no-spec : {M : Type 1} → statement M
+put-yes-or-no-spec =
     tie.close
     (tie.spec
     (λ c. search needs)

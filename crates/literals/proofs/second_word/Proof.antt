@@ -3,11 +3,11 @@
 use Prim.Native.Nat.{ℕ, _/_}
 use mathlib.Core.Path.{ap, _∙_}
 use borrow.Author.Needs.{needs}
-use Rattle.literals.proofs.high_word.Statement.{statement}
-use Rattle.literals.proofs.high_word.Tie as tie
+use Rattle.literals.proofs.second_word.Statement.{statement}
+use Rattle.literals.proofs.second_word.Tie as tie
 
-pub high-word-spec : {M : Type 1} → statement M
-high-word-spec =
+pub second-word-spec : {M : Type 1} → statement M
+second-word-spec =
     tie.close
     (tie.spec
     (λ c. search needs)
@@ -20,9 +20,9 @@ high-word-spec =
     (λ c. search needs)
     (λ c. search needs)
     (λ c. search needs)
-    (λ c. simp (c .before .before .before .l .given .1) (c .high-half .ensures ∙ ap (λ (n : ℕ). n / 4294967296) (c .before .pattern64 .ensures)))
+    (λ c. simp (c .before .before .before .value .given .1) (c .high-half .ensures ∙ ap (λ (n : ℕ). n / 4294967296) (c .before .pattern64 .ensures)))
     (λ c. search needs)
-    (λ c. simp (c .before .before .l2 .given .1) (c .high-half2 .ensures))
+    (λ c. simp (c .before .before .value2 .given .1) (c .high-half2 .ensures))
     (λ c. search needs)
     (λ c. search needs)
     (λ c. search needs)

@@ -6,8 +6,8 @@ use lib.ListN.{set}
 use borrow.Author.Needs.{needs}
 use Rattle.printing.specs.Text.{newline}
 use Rattle.printing.proofs.Lines.{ended}
-use Rattle.printing.proofs.put_word.Statement.{statement}
-use Rattle.printing.proofs.put_word.Tie as tie
+use Rattle.printing.proofs.put_line.Statement.{statement}
+use Rattle.printing.proofs.put_line.Tie as tie
 
 returns : tie.Need-returns
 returns c =
@@ -15,6 +15,6 @@ returns c =
     let a = p .before .before .before .args in
     ap (λ (z : List ℕ). set z (a .at + 8) newline) (p .put-digits .ensures) ∙ ended (a .text .now) (a .at) 16 8 (a .w) (a .at + 8) refl
 
-pub put-word-spec : {M : Type 1} → statement M
-put-word-spec =
+pub put-line-spec : {M : Type 1} → statement M
+put-line-spec =
     tie.close (tie.spec (λ c κs. search needs) (λ c. search needs) (λ c. search needs) (λ c. search needs) returns)
