@@ -24,9 +24,9 @@ use Rattle.definition.specs.Finding.{extendedFormats, formatCapabilities, dimCa
 use Rattle.definition.specs.Unfit.{checkedCapabilities, isAvailable, shapeAvailable}
 use Rattle.definition.proofs.Truth.{pick-for}
 use Rattle.lookup.specs.declared.VectorSize.{VectorSize}
-use Rattle.lookup.specs.declared.VectorSize.the-variants.{One, Many}
+use Rattle.lookup.specs.declared.VectorSize.the-variants.{Nothing as One, Of as Many}
 use Rattle.lookup.specs.declared.PointerSpace.{PointerSpace}
-use Rattle.lookup.specs.declared.PointerSpace.the-variants.{Nowhere, Class}
+use Rattle.lookup.specs.declared.PointerSpace.the-variants.{Nothing as Nowhere, Of as Class}
 use Rattle.lookup.specs.declared.LocalType.{LocalType}
 use Rattle.lookup.specs.declared.LocalType.the-variants.{Value, Matrix, Pointer, Image, Sampler, PointerToBindingArray, BindingArray, AccelerationStructure, RayQuery}
 use Rattle.lookup.specs.declared.Capabilities.{Capabilities}

@@ -113,10 +113,10 @@ fn checked_capabilities(l: LocalType) -> Capabilities
 {
     match l {
         LocalType::Value {
-            size: _,
+            vector_size: _,
             kind: _,
             width: _,
-            class: _,
+            pointer_space: _,
         } => Capabilities {
             first: 0,
             second: 0,

@@ -138,10 +138,10 @@ fn scalar_type(kind: ScalarKind, width: u8) -> LookupType
     ensures { λ r. ⌜ keyOf r ≡ shape (scalar (kindOf (kindNumber kind) width)) ⌝ }
 {
     LookupType::Local(LocalType::Value {
-        size: VectorSize::One,
+        vector_size: VectorSize::Nothing,
         kind,
         width,
-        class: PointerSpace::Nowhere,
+        pointer_space: PointerSpace::Nothing,
     })
 }
 

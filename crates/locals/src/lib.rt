@@ -214,9 +214,9 @@ fn vector_size(n: u8) -> VectorSize
     ensures { λ r. ⌜ vectorCount r ≡ definedCount n ⌝ }
 {
     if n == 0 {
-        return VectorSize::One;
+        return VectorSize::Nothing;
     }
-    VectorSize::Many(n)
+    VectorSize::Of(n)
 }
 
 // `LocalImageType::from_inner`.
@@ -265,16 +265,16 @@ pub fn make_local(inner: TypeInner) -> MaybeLocal
 {
     match inner {
         TypeInner::Scalar { kind, width } => MaybeLocal::Local(LocalType::Value {
-            size: VectorSize::One,
+            vector_size: VectorSize::Nothing,
             kind,
             width,
-            class: PointerSpace::Nowhere,
+            pointer_space: PointerSpace::Nothing,
         }),
         TypeInner::Vector { size, kind, width } => MaybeLocal::Local(LocalType::Value {
-            size: VectorSize::Many(size),
+            vector_size: VectorSize::Of(size),
             kind,
             width,
-            class: PointerSpace::Nowhere,
+            pointer_space: PointerSpace::Nothing,
         }),
         TypeInner::Matrix {
             columns,
@@ -286,10 +286,10 @@ pub fn make_local(inner: TypeInner) -> MaybeLocal
             width,
         }),
         TypeInner::Atomic { kind, width } => MaybeLocal::Local(LocalType::Value {
-            size: VectorSize::One,
+            vector_size: VectorSize::Nothing,
             kind,
             width,
-            class: PointerSpace::Nowhere,
+            pointer_space: PointerSpace::Nothing,
         }),
         TypeInner::Pointer { base, space } => MaybeLocal::Local(LocalType::Pointer {
             base,
@@ -304,10 +304,10 @@ pub fn make_local(inner: TypeInner) -> MaybeLocal
             let z = vector_size(size);
             let c = class_byte(space);
             MaybeLocal::Local(LocalType::Value {
-                size: z,
+                vector_size: z,
                 kind,
                 width,
-                class: PointerSpace::Class(c),
+                pointer_space: PointerSpace::Of(c),
             })
         }
         TypeInner::Array {

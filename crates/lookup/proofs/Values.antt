@@ -2,9 +2,9 @@
 use mathlib.Core.Path.{_≡_, refl}
 use Rattle.definition.specs.Shapes.{Kind, pointedTo}
 use Rattle.lookup.specs.declared.VectorSize.{VectorSize}
-use Rattle.lookup.specs.declared.VectorSize.the-variants.{One, Many}
+use Rattle.lookup.specs.declared.VectorSize.the-variants.{Nothing as One, Of as Many}
 use Rattle.lookup.specs.declared.PointerSpace.{PointerSpace}
-use Rattle.lookup.specs.declared.PointerSpace.the-variants.{Nowhere, Class}
+use Rattle.lookup.specs.declared.PointerSpace.the-variants.{Nothing as Nowhere, Of as Class}
 use Rattle.lookup.specs.Local.{vectorCount, valueOf, valueKey, SmallValue}
 use Rattle.lookup.specs.Packed.{code, packedShape, SmallShape}
 

@@ -9,9 +9,9 @@ use Rattle.definition.specs.Numbers.{CapabilityInt8, CapabilityInt16, Capabilit
 use Rattle.kinds.specs.Numbers.{kindNumber, spaceNumber, spaceAccess}
 use Rattle.lookup.specs.Packed.{bytesKey, Bytes}
 use Rattle.lookup.specs.declared.VectorSize.{VectorSize}
-use Rattle.lookup.specs.declared.VectorSize.the-variants.{One, Many}
+use Rattle.lookup.specs.declared.VectorSize.the-variants.{Nothing as One, Of as Many}
 use Rattle.lookup.specs.declared.PointerSpace.{PointerSpace}
-use Rattle.lookup.specs.declared.PointerSpace.the-variants.{Nowhere, Class}
+use Rattle.lookup.specs.declared.PointerSpace.the-variants.{Nothing as Nowhere, Of as Class}
 use Rattle.lookup.specs.declared.LocalType.{LocalType}
 use Rattle.lookup.specs.declared.LocalType.the-variants.{Value, Matrix, Pointer, Image, Sampler, PointerToBindingArray, BindingArray, AccelerationStructure, RayQuery}
 use Rattle.lookup.specs.declared.LookupType.{LookupType}

@@ -30,16 +30,17 @@ ghost use Rattle.kinds.specs.Numbers.{kindNumber};
 ghost use Rattle.lookup.specs.Local.{localShape, keyOf, valueKey, SmallValue, innerKey, lengthOf, asList, integerCapabilities};
 ghost use Rattle.lookup.specs.Packed.{code, bytesKey, baseKey, packedShape, packedKey, Bytes, SmallBase, SmallShape, Small};
 
-// `Option<VectorSize>`, the size of a `LocalType::Value`: one scalar, or a vector of so many.
+// `Option<VectorSize>`, the size of a `LocalType::Value`: nothing of a scalar, or that of a vector, as a number. The Rust's Bi, Tri
+// and Quad would not do: a shape is told for every sheet, also where test 10 refuses the size.
 pub enum VectorSize {
-    One,
-    Many(u8),
+    Nothing,
+    Of(u8),
 }
 
-// `Option<spirv::StorageClass>`, where the value that a `LocalType::Value` points to lies; nowhere if it is the value itself.
+// `Option<spirv::StorageClass>`, where the value that a `LocalType::Value` points to lies; nothing if it is the value itself.
 pub enum PointerSpace {
-    Nowhere,
-    Class(u8),
+    Nothing,
+    Of(u8),
 }
 
 // `LocalImageType`: every operand of OpTypeImage under its own name, where the Rust has four of them as flags. The sampled type
@@ -58,10 +59,10 @@ pub struct LocalImageType {
 // expressions, which no sheet has. Classes are the Specification's storage classes, bases are indexes of entries.
 pub enum LocalType {
     Value {
-        size: VectorSize,
+        vector_size: VectorSize,
         kind: ScalarKind,
         width: u8,
-        class: PointerSpace,
+        pointer_space: PointerSpace,
     },
     Matrix {
         columns: u8,
@@ -204,13 +205,13 @@ fn value_key(size: VectorSize, k: u64, class: PointerSpace) -> u64
     ensures { λ r. ⌜ (r ≡ valueKey size k class) × SmallValue size k class ⌝ }
 {
     match class {
-        PointerSpace::Nowhere => match size {
-            VectorSize::One => bytes_key(1, k, 0, 0, 0, 0, 0, 0),
-            VectorSize::Many(n) => bytes_key(2, k, n, 0, 0, 0, 0, 0),
+        PointerSpace::Nothing => match size {
+            VectorSize::Nothing => bytes_key(1, k, 0, 0, 0, 0, 0, 0),
+            VectorSize::Of(n) => bytes_key(2, k, n, 0, 0, 0, 0, 0),
         },
-        PointerSpace::Class(c) => match size {
-            VectorSize::One => bytes_key(5, k, c, 0, 0, 0, 0, 0),
-            VectorSize::Many(n) => bytes_key(6, k, c, n, 0, 0, 0, 0),
+        PointerSpace::Of(c) => match size {
+            VectorSize::Nothing => bytes_key(5, k, c, 0, 0, 0, 0, 0),
+            VectorSize::Of(n) => bytes_key(6, k, c, n, 0, 0, 0, 0),
         },
     }
 }
@@ -221,10 +222,10 @@ pub fn local_key(local: LocalType) -> u64
 {
     match local {
         LocalType::Value {
-            size,
+            vector_size: size,
             kind,
             width,
-            class,
+            pointer_space: class,
         } => {
             let k = scalar_code(kind, width);
             value_key(size, k, class)
@@ -284,25 +285,25 @@ pub fn inner_type(local: LocalType) -> Inner
 {
     match local {
         LocalType::Value {
-            size,
+            vector_size: size,
             kind,
             width,
-            class,
+            pointer_space: class,
         } => match class {
-            PointerSpace::Nowhere => match size {
-                VectorSize::One => Inner::Nothing,
-                VectorSize::Many(_) => Inner::Of(LookupType::Local(LocalType::Value {
-                    size: VectorSize::One,
+            PointerSpace::Nothing => match size {
+                VectorSize::Nothing => Inner::Nothing,
+                VectorSize::Of(_) => Inner::Of(LookupType::Local(LocalType::Value {
+                    vector_size: VectorSize::Nothing,
                     kind,
                     width,
-                    class: PointerSpace::Nowhere,
+                    pointer_space: PointerSpace::Nothing,
                 })),
             },
-            PointerSpace::Class(_) => Inner::Of(LookupType::Local(LocalType::Value {
-                size,
+            PointerSpace::Of(_) => Inner::Of(LookupType::Local(LocalType::Value {
+                vector_size: size,
                 kind,
                 width,
-                class: PointerSpace::Nowhere,
+                pointer_space: PointerSpace::Nothing,
             })),
         },
         LocalType::Matrix {
@@ -311,20 +312,20 @@ pub fn inner_type(local: LocalType) -> Inner
             width,
         } => {
             Inner::Of(LookupType::Local(LocalType::Value {
-                size: VectorSize::Many(rows),
+                vector_size: VectorSize::Of(rows),
                 kind: ScalarKind::Float,
                 width,
-                class: PointerSpace::Nowhere,
+                pointer_space: PointerSpace::Nothing,
             }))
         }
         LocalType::Pointer { base, class: _ } => Inner::Of(LookupType::Handle(base)),
         LocalType::Image(i) => {
             let kind = i.kind;
             Inner::Of(LookupType::Local(LocalType::Value {
-                size: VectorSize::One,
+                vector_size: VectorSize::Nothing,
                 kind,
                 width: 4,
-                class: PointerSpace::Nowhere,
+                pointer_space: PointerSpace::Nothing,
             }))
         }
         LocalType::Sampler => Inner::Nothing,
@@ -345,16 +346,16 @@ pub fn length_of(local: LocalType) -> Length
 {
     match local {
         LocalType::Value {
-            size,
+            vector_size: size,
             kind: _,
             width: _,
-            class,
+            pointer_space: class,
         } => match class {
-            PointerSpace::Nowhere => match size {
-                VectorSize::One => Length::Nothing,
-                VectorSize::Many(_) => Length::Nothing,
+            PointerSpace::Nothing => match size {
+                VectorSize::Nothing => Length::Nothing,
+                VectorSize::Of(_) => Length::Nothing,
             },
-            PointerSpace::Class(_) => Length::Nothing,
+            PointerSpace::Of(_) => Length::Nothing,
         },
         LocalType::Matrix {
             columns: _,
@@ -463,22 +464,22 @@ pub fn capabilities_of(local: LocalType) -> Capabilities
 {
     match local {
         LocalType::Value {
-            size,
+            vector_size: size,
             kind,
             width,
-            class,
+            pointer_space: class,
         } => match class {
-            PointerSpace::Nowhere => match size {
-                VectorSize::One => Capabilities {
+            PointerSpace::Nothing => match size {
+                VectorSize::Nothing => Capabilities {
                     first: 0,
                     second: kind_capability(kind, width),
                 },
-                VectorSize::Many(_) => Capabilities {
+                VectorSize::Of(_) => Capabilities {
                     first: 0,
                     second: 0,
                 },
             },
-            PointerSpace::Class(_) => Capabilities {
+            PointerSpace::Of(_) => Capabilities {
                 first: 0,
                 second: 0,
             },
@@ -547,16 +548,16 @@ pub fn put_shape(sink: &mut [u32], local: LocalType, id: u32, x: u32, y: u32) ->
 {
     match local {
         LocalType::Value {
-            size,
+            vector_size: size,
             kind,
             width,
-            class,
+            pointer_space: class,
         } => match class {
-            PointerSpace::Nowhere => match size {
-                VectorSize::One => put_scalar(sink, kind, width, id, x, y),
-                VectorSize::Many(n) => type_vector(sink, id, x, n as u32),
+            PointerSpace::Nothing => match size {
+                VectorSize::Nothing => put_scalar(sink, kind, width, id, x, y),
+                VectorSize::Of(n) => type_vector(sink, id, x, n as u32),
             },
-            PointerSpace::Class(c) => type_pointer(sink, id, c as u32, x),
+            PointerSpace::Of(c) => type_pointer(sink, id, c as u32, x),
         },
         LocalType::Matrix {
             columns,

@@ -112,10 +112,10 @@ pub fn vector_type(size: u8, kind: ScalarKind, width: u8) -> LookupType
     ensures { λ r. ⌜ keyOf r ≡ shape (vector size (kindOf (kindNumber kind) width)) ⌝ }
 {
     LookupType::Local(LocalType::Value {
-        size: VectorSize::Many(size),
+        vector_size: VectorSize::Of(size),
         kind,
         width,
-        class: PointerSpace::Nowhere,
+        pointer_space: PointerSpace::Nothing,
     })
 }
 

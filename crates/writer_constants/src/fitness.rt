@@ -104,10 +104,10 @@ fn places_fit(tables: &[u64], w: Writer, tag: u8, d: &[u8], b: &[u8], n: u16) ->
             let kind = kind_for(fields::u8_at(d, p + 1));
             let width = fields::u8_at(d, p + 2);
             let l = LookupType::Local(LocalType::Value {
-                size: VectorSize::One,
+                vector_size: VectorSize::Nothing,
                 kind,
                 width,
-                class: PointerSpace::Nowhere,
+                pointer_space: PointerSpace::Nothing,
             });
             each_fits(tables, w, b, n, fields::u8_at(d, p) as u32, l)
         }
