@@ -40,7 +40,7 @@ fn may_be_bound(space: AddressSpace) -> bool
 }
 
 // A bound global is Uniform, Storage or Handle.
-fn may_be_bound(binding: Binding, space: AddressSpace) -> bool
+fn bound_space_fits(binding: Binding, space: AddressSpace) -> bool
     ensures { λ r. ⌜ r ≡ (not (eqb (boundNumber binding) 1) || among (spaceNumber space) (uniformSpace ∷ storageSpace ∷ handleSpace ∷ [])) ⌝ }
 {
     match binding {
@@ -104,7 +104,7 @@ fn variable_fits(
     if type_facts::is_pointer(s, types, n, g.ty as usize) {
         return false;
     }
-    if !may_be_bound(binding, space) {
+    if !bound_space_fits(binding, space) {
         return false;
     }
     if !init_fits(tables, w, init, space, g.ty) {

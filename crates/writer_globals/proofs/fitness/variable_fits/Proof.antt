@@ -39,7 +39,7 @@ returns-3 c =
       held = λ S x h.
           decided (typesFrom (a .s .now) (a .types .now) (a .n)) x (globalOf b (a .g)) (sym (not-function (a .g .space) (c .before .before .before .before .before .match .keys2)))
           (sym (c .before .before .if1 .left) ∙ c .before .before .before .is-pointer .ensures)
-          (sym (not-true (c .before .may-be-bound .result) (c .if2 .taken)) ∙ c .before .may-be-bound .ensures) refl refl refl;
+          (sym (not-true (c .before .bound-space-fits .result) (c .if2 .taken)) ∙ c .before .bound-space-fits .ensures) refl refl refl;
       memo = c .before .before .before .before .before .before .before .before .before .before .pre .3;
     }
 
@@ -50,7 +50,7 @@ returns-4 c =
       held = λ S x h.
           decided (typesFrom (a .s .now) (a .types .now) (a .n)) x (globalOf b (a .g)) (sym (not-function (a .g .space) (c .before .before .before .before .before .before .before .match .keys2)))
           (sym (c .before .before .before .before .if1 .left) ∙ c .before .before .before .before .before .is-pointer .ensures)
-          (sym (not-false (c .before .before .before .may-be-bound .result) (c .before .before .if2 .left)) ∙ c .before .before .before .may-be-bound .ensures)
+          (sym (not-false (c .before .before .before .bound-space-fits .result) (c .before .before .if2 .left)) ∙ c .before .before .before .bound-space-fits .ensures)
           (sym (not-true (c .before .init-fits .result) (c .if3 .taken)) ∙ c .before .init-fits .ensures S x h (globalOf b (a .g)) refl refl) refl refl;
       memo = c .before .before .before .before .before .before .before .before .before .before .before .before .pre .3;
     }
@@ -62,7 +62,7 @@ returns-5 c =
       held = λ S x h.
           decided (typesFrom (a .s .now) (a .types .now) (a .n)) x (globalOf b (a .g)) (sym (not-function (a .g .space) (c .before .before .before .before .before .before .before .before .before .before .before .before .before .before .match .keys2)))
           (sym (c .before .before .before .before .before .before .before .before .before .before .before .if1 .left) ∙ c .before .before .before .before .before .before .before .before .before .before .before .before .is-pointer .ensures)
-          (sym (not-false (c .before .before .before .before .before .before .before .before .before .before .may-be-bound .result) (c .before .before .before .before .before .before .before .before .before .if2 .left)) ∙ c .before .before .before .before .before .before .before .before .before .before .may-be-bound .ensures)
+          (sym (not-false (c .before .before .before .before .before .before .before .before .before .before .bound-space-fits .result) (c .before .before .before .before .before .before .before .before .before .if2 .left)) ∙ c .before .before .before .before .before .before .before .before .before .before .bound-space-fits .ensures)
           (sym (not-false (c .before .before .before .before .before .before .before .before .init-fits .result) (c .before .before .before .before .before .before .before .if3 .left)) ∙ c .before .before .before .before .before .before .before .before .init-fits .ensures S x h (globalOf b (a .g)) refl refl)
           (sym (c .before .before .before .before .before .if4 .taken) ∙ c .before .before .before .before .before .before .is-zeroed .ensures) (c .before .before .is-zeroable .ensures .0);
       memo = c .before .before .is-zeroable .ensures .1;
@@ -75,7 +75,7 @@ returns-6 c =
       held = λ S x h.
           decided (typesFrom (a .s .now) (a .types .now) (a .n)) x (globalOf b (a .g)) (sym (not-function (a .g .space) (c .before .before .before .before .before .before .before .before .before .match .keys2)))
           (sym (c .before .before .before .before .before .before .if1 .left) ∙ c .before .before .before .before .before .before .before .is-pointer .ensures)
-          (sym (not-false (c .before .before .before .before .before .may-be-bound .result) (c .before .before .before .before .if2 .left)) ∙ c .before .before .before .before .before .may-be-bound .ensures)
+          (sym (not-false (c .before .before .before .before .before .bound-space-fits .result) (c .before .before .before .before .if2 .left)) ∙ c .before .before .before .before .before .bound-space-fits .ensures)
           (sym (not-false (c .before .before .before .init-fits .result) (c .before .before .if3 .left)) ∙ c .before .before .before .init-fits .ensures S x h (globalOf b (a .g)) refl refl)
           (sym (c .if4 .left) ∙ c .before .is-zeroed .ensures) refl;
       memo = c .before .before .before .before .before .before .before .before .before .before .before .before .before .before .pre .3;
