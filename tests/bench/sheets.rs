@@ -248,36 +248,31 @@ pub fn worst() -> Vec<(&'static str, Vec<u8>)> {
 
     // Composites.
     let literals = |count: usize| with(thirty(), (0..count).map(float).collect());
-    let last = |n: usize| {
-        let mut parts = vec![0; 30];
-        parts[29] = n as u16;
-        compose(1, parts)
+    // Of 30 parts, all equal but for one, and but for two that stand side by side. The last part is compared first, then the
+    // others from the front.
+    let but_one = |place: usize| {
+        move |n: usize| {
+            let mut parts = vec![0; 30];
+            parts[place] = n as u16;
+            compose(1, parts)
+        }
     };
-    add("128 composites of 30 parts, equal but for the last", fill(literals(128), 128, last));
-    let last_two = |n: usize| {
-        let mut parts = vec![0; 30];
-        (parts[28], parts[29]) = (n as u16 / 16, n as u16 % 16);
-        compose(1, parts)
+    let but_two = |place: usize| {
+        move |n: usize| {
+            let mut parts = vec![0; 30];
+            (parts[place], parts[place + 1]) = (n as u16 / 16, n as u16 % 16);
+            compose(1, parts)
+        }
     };
+    add("128 composites of 30 parts, equal but for the last", fill(literals(128), 128, but_one(29)));
+    add("128 composites of 30 parts, equal but for the first", fill(literals(128), 128, but_one(0)));
     add(
         "about 240 composites of 30 parts, equal but for the last two",
-        fill(literals(16), 240, last_two),
+        fill(literals(16), 240, but_two(28)),
     );
-    let first = |n: usize| {
-        let mut parts = vec![0; 30];
-        parts[0] = n as u16;
-        compose(1, parts)
-    };
-    add("128 composites of 30 parts, equal but for the first", fill(literals(128), 128, first));
-    // The last part is compared first, then the others from the front.
-    let before_last = |n: usize| {
-        let mut parts = vec![0; 30];
-        (parts[27], parts[28]) = (n as u16 / 16, n as u16 % 16);
-        compose(1, parts)
-    };
     add(
         "about 240 composites of 30 parts, equal but for the two before the last",
-        fill(literals(16), 240, before_last),
+        fill(literals(16), 240, but_two(27)),
     );
     add(
         "about 240 equal composites of 30 parts",
