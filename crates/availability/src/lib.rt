@@ -53,7 +53,7 @@ pub fn everything() -> Available
 
 // Whether a capability is among the 32-bit numbers of a body. As many are read as the body has whole; bytes behind them, which
 // test 8 refuses, are not.
-fn is_listed(body: &[u8], cap: u32) -> bool
+fn lists_capability(body: &[u8], cap: u32) -> bool
     ensures { λ r. ⌜ r ≡ among cap (availableFields (now (body .entry)) .value) ⌝ }
 {
     let mut at = 0;
@@ -69,16 +69,19 @@ fn is_listed(body: &[u8], cap: u32) -> bool
 }
 
 // What the body of an Available record lists.
-fn listed(body: &[u8]) -> Available
+fn flags_of(body: &[u8]) -> Available
     ensures { λ r. ⌜ Flagged (some (availableFields (now (body .entry)) .value)) r ⌝ }
 {
     Available {
-        image_cube_array: is_listed(body, CAPABILITY_IMAGE_CUBE_ARRAY),
-        sampled_1d: is_listed(body, CAPABILITY_SAMPLED_1D),
-        image_1d: is_listed(body, CAPABILITY_IMAGE_1D),
-        sampled_cube_array: is_listed(body, CAPABILITY_SAMPLED_CUBE_ARRAY),
-        storage_image_extended_formats: is_listed(body, CAPABILITY_STORAGE_IMAGE_EXTENDED_FORMATS),
-        ray_query_khr: is_listed(body, CAPABILITY_RAY_QUERY_KHR),
+        image_cube_array: lists_capability(body, CAPABILITY_IMAGE_CUBE_ARRAY),
+        sampled_1d: lists_capability(body, CAPABILITY_SAMPLED_1D),
+        image_1d: lists_capability(body, CAPABILITY_IMAGE_1D),
+        sampled_cube_array: lists_capability(body, CAPABILITY_SAMPLED_CUBE_ARRAY),
+        storage_image_extended_formats: lists_capability(
+            body,
+            CAPABILITY_STORAGE_IMAGE_EXTENDED_FORMATS,
+        ),
+        ray_query_khr: lists_capability(body, CAPABILITY_RAY_QUERY_KHR),
     }
 }
 
@@ -87,7 +90,7 @@ pub fn behind(a: Available, rest: &[u8]) -> Available
     ensures { λ r. ⌜ ((n : Seen) → Flagged (n .available) a → Flagged (addRecord n (recordAt (now (rest .entry))) .available) r) ⌝ }
 {
     match records::rank_of(records::tag_of(rest)) {
-        1 => listed(records::body_of(rest)),
+        1 => flags_of(records::body_of(rest)),
         _ => a,
     }
 }

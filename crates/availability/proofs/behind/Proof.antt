@@ -16,8 +16,8 @@ returns : tie.Need-returns
 returns c = λ n h.
     let r = recordAt (now (c .before .before .before .before .before .before .args .rest)) in
     let e = ap tagRank (sym (c .before .before .before .before .tag-of .ensures)) ∙ sym (c .before .before .before .rank-of .ensures) ∙ c .before .before .match .keys1 in
-    subst (λ (o : Option (List ℕ)). Flagged o (c .listed .result))
-    (ap (λ (b : List ℕ). some (availableFields b .value)) (c .before .body-of .ensures) ∙ sym (lists n r e)) (c .listed .ensures)
+    subst (λ (o : Option (List ℕ)). Flagged o (c .flags-of .result))
+    (ap (λ (b : List ℕ). some (availableFields b .value)) (c .before .body-of .ensures) ∙ sym (lists n r e)) (c .flags-of .ensures)
 
 returns-2 : tie.Need-returns-2
 returns-2 c = λ n h.

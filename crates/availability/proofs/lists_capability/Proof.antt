@@ -3,8 +3,8 @@ use mathlib.Core.Path.{_∙_, sym, refl}
 use native.Mathlib.Omega.{arith}
 use borrow.Author.Needs.{needs}
 use Rattle.availability.proofs.Laws.{Going, starts, found, turn, ended}
-use Rattle.availability.proofs.is_listed.Statement.{statement}
-use Rattle.availability.proofs.is_listed.Tie as tie
+use Rattle.availability.proofs.lists_capability.Statement.{statement}
+use Rattle.availability.proofs.lists_capability.Tie as tie
 
 abbrev Inv-loop : tie.InvT-loop
 Inv-loop body cap at₀ left₀ at left = Going cap body at left
@@ -31,8 +31,8 @@ loop-again c =
 returns-2 : tie.Need-returns-2 Inv-loop μ-loop
 returns-2 c = ended _ _ (c .before .loop .inv) (c .loop-test .left)
 
-pub is-listed-spec : {M : Type 1} → statement M
-is-listed-spec =
+pub lists-capability-spec : {M : Type 1} → statement M
+lists-capability-spec =
     tie.close
     (tie.spec Inv-loop μ-loop loop-holds whole-u32-at-requires returns (λ c. search needs) (λ c. search needs) (λ c. search needs)
     loop-again returns-2)
