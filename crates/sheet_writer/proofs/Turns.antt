@@ -1,6 +1,6 @@
 -- The ways out of a record's turn: which test answers, and that what is declared is the definition's entry. The record's rank
 -- says which fields its entry is read by, so each arm is the promise of the crate that writes its kind.
-use Prim.Native.Nat.{ℕ, _+_, _%_, _≤_, _<_}
+use Prim.Native.Nat.{ℕ, _+_, _≤_, _<_}
 use mathlib.Core.Path.{_≡_, refl, sym, ap, _∙_, subst}
 use mathlib.Core.Bool.{Bool, true}
 use mathlib.Core.List.{List}
@@ -8,7 +8,7 @@ use mathlib.Core.List.{_∷_, [], map}
 use mathlib.Core.Option.{Option}
 use native.Mathlib.Omega.{arith}
 use borrow.Author.Tests.{ltb-true}
-use lib.Dec.{eqb, ltb}
+use lib.Dec.{ltb}
 use lib.ListN.{length, take, length-take, length-drop}
 use Rattle.definition.specs.Choice.{unless}
 use Rattle.definition.specs.Sheet.{Record, Fields, Entry, Remap, recordAt, Options, entryOf, tagRank, available, remap}

@@ -1,14 +1,14 @@
 -- Words put behind those of a section, and capabilities listed. One law for every section: the state's words are those it had and
 -- the instruction's behind them, and tables and other sections stay; each kind of instruction is then an instance.
-use Prim.Native.Nat.{ℕ, zero, suc, _+_, _*_, _≤_, _<_}
+use Prim.Native.Nat.{ℕ, zero, suc, _+_, _≤_, _<_}
 use mathlib.Core.Path.{_≡_, refl, sym, ap, _∙_, subst}
 use mathlib.Core.Bool.{Bool, true, false}
 use mathlib.Core.List.{List, [], _∷_, _++_, append-assoc, append-nil, map}
 use native.Mathlib.Omega.{arith}
 use native.Mathlib.Numerals.{add-one}
 use lib.Dec.{eqb}
-use lib.ListN.{length, getD, take, drop, length-append, length-drop}
-use lib.Seq.{slice, slice-cons, slice-empty, length-take-le, take-suc, take-add, getD-drop, drop-drop}
+use lib.ListN.{length, getD, take, drop}
+use lib.Seq.{slice, slice-cons, slice-empty, take-add, drop-drop}
 use borrow.Author.Tests.{eq-eqb, ne-eqb}
 use Rattle.definition.specs.Choice.{pick}
 use Rattle.definition.specs.Instructions.{Instruction, words, allWords}
@@ -24,7 +24,7 @@ use Rattle.writer.specs.Regions.{sectionAt, Section, names, annotations,
 use Rattle.writer.specs.Cost.{listingCost, declaring, sectionWords}
 use Rattle.writer.specs.Held.{Sections, tablesOf, sectionsOf, sectionsIn, wordsOf, Held, RoomFor}
 use Rattle.writer.specs.Steps.{Spelt, Adds, Puts as PutsOne, Listed, withCapabilities, CountListed, Pending, Committed}
-use Rattle.writer.proofs.Regions.{part-left, part-right, part-more, splice-splice}
+use Rattle.writer.proofs.Regions.{part-left, part-right, part-more}
 
 map-append : (xs ys : List ℕ) → map low (xs ++ ys) ≡ map low xs ++ map low ys
 map-append [] ys = refl

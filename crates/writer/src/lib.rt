@@ -16,7 +16,7 @@ ghost use Rattle.spirv.specs.Sections.{splice};
 ghost use Rattle.lookup.specs.Local.{asList};
 ghost use Rattle.writer.specs.Rows.{pair, triple, tableRows, seekIn, sameList, seekParts, soughtOf, part, isListed};
 ghost use Rattle.writer.specs.Regions.{partsAt, names, annotations, declarations};
-ghost use Rattle.writer.specs.Cost.{noCost, aType, aLiteral, aNull, aValue, aComposite, staging, naming, annotating, declaring};
+ghost use Rattle.writer.specs.Cost.{noCost, aType, aLiteral, aNull, aValue, aComposite, staging, naming, declaring};
 ghost use Rattle.writer.specs.Held.{Held, RoomIn, RoomFor};
 ghost use Rattle.writer.specs.Steps.{fresh, Took, FindsType, FindsLiteral, FindsNull, FindsComposite, EnteredType, EnteredLiteral, EnteredNull, EnteredComposite, EnteredValue, ValueAt, Puts, CountListed, Pending, Committed};
 

@@ -1,6 +1,6 @@
 -- Decorations and the name: each function's ways out from what its callees leave. An instruction put is one step `Added`;
 -- two steps are one; and a step is the definition's where the definition has been told the case.
-use Prim.Native.Nat.{ℕ, _+_, _≤_, _<_, _/_, _%_}
+use Prim.Native.Nat.{ℕ, _+_, _≤_, _/_, _%_}
 use mathlib.Core.Path.{_≡_, refl, sym, ap, _∙_, subst}
 use mathlib.Core.Bool.{Bool, true, false}
 use mathlib.Core.List.{List, [], _∷_}

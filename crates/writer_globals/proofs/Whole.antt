@@ -1,6 +1,6 @@
 -- A global from what each call leaves, in the order of the calls: what is left of its room before each, then the whole.
 -- The rule is restated as a function of its parts (`run`), so that each part's equation goes in by itself.
-use Prim.Native.Nat.{ℕ, suc, _+_, _/_, _%_}
+use Prim.Native.Nat.{ℕ, suc, _+_}
 use mathlib.Core.Path.{_≡_, refl, sym, ap, _∙_, subst, fun-ext}
 use mathlib.Core.Bool.{Bool, true, _&&_, _||_}
 use mathlib.Core.List.{List}

@@ -1,6 +1,6 @@
 -- The ways out of an array: the base is found, then the length, if there is one, then the instruction is put. The definition
 -- does the same steps to the state, so each way is a chain of the callees' promises.
-use Prim.Native.Nat.{ℕ, zero, suc, _<_}
+use Prim.Native.Nat.{ℕ, zero, suc}
 use mathlib.Core.Path.{_≡_, refl, sym, ap, _∙_, subst}
 use mathlib.Core.List.{List, [], _∷_}
 use native.Mathlib.Omega.{arith}

@@ -11,8 +11,8 @@ use Rattle.definition.specs.Instructions.{Instruction, memberName, memberDecora
 use Rattle.definition.specs.Numbers.{DecorationOffset}
 use Rattle.definition.specs.Sheet.{Member, TypeEntry}
 use Rattle.definition.specs.Shapes.{Key, sameKey, entry}
-use Rattle.definition.specs.State.{State, Got, got, lookup, idOf, annotate, declareAlone}
-use Rattle.definition.specs.Finding.{find, findAt, orNewKey}
+use Rattle.definition.specs.State.{State, Got, lookup, idOf, annotate, declareAlone}
+use Rattle.definition.specs.Finding.{find}
 use Rattle.definition.specs.Rules.{GotAll, declareMembers, declareStruct, decorateMember, strideMember, labelIf, matrixStride, elementOf, innerAt, anyDynamic, annotateIf, block}
 use Rattle.finding.proofs.Entries.{entry-found}
 use Rattle.writer_types.specs.Members.{decorated, idsIn, structPut}

@@ -2,7 +2,6 @@
 -- length, what they were lent came back as long as it was (`placed`), and the counts add up to no more than the buffer has.
 use mathlib.Core.Path.{sym}
 use native.Mathlib.Omega.{arith}
-use borrow.Author.Needs.{needs}
 use Rattle.module_layout.proofs.Modules.{listed, placed, placed-2, placed-3, all-back, module-put}
 use Rattle.module_layout.proofs.put_module.Statement.{statement}
 use Rattle.module_layout.proofs.put_module.Tie as tie

@@ -1,6 +1,5 @@
 -- The counts' rank and Available are those of what was read.
 use borrow.Author.Tests.{lt-ltb, le-ltb, ne-eqb}
-use borrow.Author.Needs.{needs}
 use Rattle.records.proofs.out_of_order.Statement.{statement}
 use Rattle.records.proofs.out_of_order.Tie as tie
 

@@ -1,8 +1,8 @@
 -- Two stores one behind the other are one splice.
-use Prim.Native.Nat.{ℕ, suc, _+_}
+use Prim.Native.Nat.{ℕ}
 use native.Mathlib.Numerals.{add-one}
 use mathlib.Core.List.{[], _∷_}
-use mathlib.Core.Path.{_≡_, _∙_, ap}
+use mathlib.Core.Path.{_∙_, ap}
 use lib.Seq.{sets-eq}
 use lib.ListN.{length-set, set}
 use native.Mathlib.Omega.{arith}

@@ -1,7 +1,7 @@
 -- A record that is a type is hashed; of any other nothing is said.
 use Prim.Native.Nat.{ℕ}
 use mathlib.Core.List.{List}
-use mathlib.Core.Path.{sym, ap, ap₂, _∙_}
+use mathlib.Core.Path.{ap, ap₂, _∙_}
 use borrow.Author.Needs.{needs}
 use Rattle.definition.specs.Sheet.{tagRank}
 use Rattle.sheet_fields.specs.Fields.{recordOf}

@@ -1,7 +1,6 @@
 -- `string_to_words` meets its contract. The loop's invariant is that of `put_words`, over the packed words; the word that a turn
 -- writes is theirs by `word-whole`, and the last one, behind which the bytes end, by `word-here`.
 use Prim.Native.Nat.{ℕ, _+_, _-_, _/_, _≤_}
-use mathlib.Core.List.{List}
 use mathlib.Core.Path.{_≡_, refl, ap, _∙_}
 use native.Mathlib.Omega.{arith}
 use lib.ListN.{length, length-set}

@@ -1,6 +1,6 @@
 -- An arm for each: the initializer is no operand or one.
 use Prim.Native.Nat.{ℕ}
-use mathlib.Core.Option.{Option, some, none}
+use mathlib.Core.Option.{Option, some}
 use mathlib.Core.Path.{sym, ap, _∙_, subst}
 use borrow.Author.Needs.{needs}
 use Rattle.definition.specs.Instructions.{words, variable}

@@ -1,9 +1,9 @@
 -- As `put_words`, each id taken as a word on its way.
-use Prim.Native.Nat.{ℕ, _-_, _≤_}
+use Prim.Native.Nat.{_-_, _≤_}
 use mathlib.Core.List.{map}
 use mathlib.Core.Path.{_≡_, refl, sym, _∙_}
 use native.Mathlib.Omega.{arith}
-use lib.ListN.{length, getD}
+use lib.ListN.{length}
 use borrow.Author.Needs.{needs}
 use Rattle.spirv.specs.Ids.{low}
 use Rattle.spirv.proofs.Ids.{low-length, low-at}

@@ -1,5 +1,4 @@
 -- The stride, then what an array shares with a BindingArray.
-use native.Mathlib.Omega.{arith}
 use borrow.Author.Needs.{needs}
 use Rattle.writer_types.proofs.Arrays.{strided}
 use Rattle.writer_types.proofs.aggregates.write_array.Statement.{statement}

@@ -1,7 +1,5 @@
 -- The base, then the length if there is one, then the instruction; each callee's promise is the definition's next step. The base is
 -- an entry, and finding an entry changes nothing (`entry-got`).
-use mathlib.Core.Path.{_∙_}
-use native.Mathlib.Omega.{arith}
 use borrow.Author.Needs.{needs}
 use Rattle.finding.proofs.Ways.{taken}
 use Rattle.finding.proofs.Entries.{entry-got}
