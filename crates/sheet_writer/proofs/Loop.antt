@@ -176,7 +176,6 @@ module _ (s T₀ S₀ m₀ : List ℕ) (p₀ : Places) (nr nb : ℕ) (T S m : Li
         few = h .few .types;
         small = bytes-left;
         memo = h .memo;
-        no-room = no-room s T S nr nb at k w (h .used) (h .few) (cap .for-bytes (h .small)) (cap .for-records) (omega (arith, cap .tables, h .tables)) (omega (arith, cap .sections, h .sections)) (h .small) (h .going .inside);
         room = λ z. tested-room z .0;
       }
 

@@ -3,8 +3,7 @@
 use Prim.Native.Nat.{ℕ, _+_, _≤_, _<_}
 use mathlib.Core.Path.{_≡_, refl, sym, ap, _∙_, subst}
 use mathlib.Core.Bool.{Bool, true}
-use mathlib.Core.List.{List}
-use mathlib.Core.List.{_∷_, [], map}
+use mathlib.Core.List.{List, _∷_, [], map}
 use mathlib.Core.Option.{Option}
 use native.Mathlib.Omega.{arith}
 use borrow.Author.Tests.{ltb-true}
@@ -24,40 +23,31 @@ use Rattle.sheet.proofs.Adding.{by-rank, rank-most, placed-of}
 use Rattle.sheet.specs.Reading.{Looked}
 use Rattle.writer.specs.declared.Writer.{Writer}
 use Rattle.writer.specs.Cost.{recordCost}
-use Rattle.writer.specs.Held.{Held, Grown}
+use Rattle.writer.specs.Held.{Held, Room, Grown}
 use Rattle.writer.specs.Steps.{Kept}
-use Rattle.writer_types.specs.Tested as Types
-use Rattle.writer_constants.specs.Tested as Constants
+use Rattle.writer_types.specs.Tested.{TypeTested}
+use Rattle.writer_constants.specs.Tested.{ConstantTested}
 use Rattle.writer_constants.specs.Entered.{ConstantWritten}
-use Rattle.writer_globals.specs.Records as Globals
+use Rattle.writer_globals.specs.Records.{globalIn, GlobalTested}
 use Rattle.writer_globals.specs.Globals.{GlobalKept}
-use Rattle.definition.specs.Bytes.{nameEnd}
 use Rattle.definition.specs.Sheet as Defined
-use Rattle.definition.specs.Shapes.{shapeOf}
-use Rattle.definition.specs.Tests.{innerFits}
-use Rattle.definition.specs.Unfit.{shapeAvailable}
 use Rattle.records.specs.Places.{typesFrom, remapFrom, typeOfRecord as recordType}
+use Rattle.definition.specs.Bytes.{nameEnd}
+use Rattle.definition.specs.Shapes.{shapeOf}
+use Rattle.definition.specs.Unfit.{shapeAvailable}
 use Rattle.entries.specs.declared.types.TypeInner.{TypeInner}
+use Rattle.entries.specs.declared.constants.Expression.{Expression}
+use Rattle.entries.specs.declared.globals.GlobalVariable.{GlobalVariable}
 use Rattle.entries.specs.Types.{TypeTaken, innerOf}
+use Rattle.entries.specs.Constants.{ConstantTaken}
+use Rattle.entries.specs.Globals.{GlobalTaken}
 use Rattle.availability.specs.declared.Available.{Available}
-use Rattle.availability.specs.Flags.{Flagged}
-use Rattle.sheet_writer.specs.Turning.{Before, PassedTests, TestsFitness, EntryWritten, costAt}
+use Rattle.zeroable.specs.Memo.{Memo}
+use Rattle.sheet_writer.specs.declared.RecordOutcome.{RecordOutcome}
+use Rattle.sheet_writer.specs.Turning.{Before, Ready, TestsType, TestsUnfit, ComesTo, EntryWritten, RecordWritten, entryCost, costAt}
 use Rattle.sheet_writer.proofs.Given.{Told, told, names-types, typeOf, constantOf, globalOf, is-type, is-constant, is-global, is-available, is-remap}
 
--- ---- the record's own test: 5 to 12, then 13 and 14
-
-module _ (s rs ts : List ℕ) (k : Counts) (a : Available) (rest : List ℕ) (w : Writer) (T S : List ℕ) where
-  pub read-first : (r : ℕ) → ((n : Seen) → Looked s rs ts k n → r ≡ readingTest n (recordAt rest)) → (r ≡ 0 → ⊥)
-      → (n : Seen) → Before s rs ts k a n → (x : State) → Held w T S x → r ≡ recordTest (record { seen = n; state = x }) (recordAt rest)
-  unfolding recordTest
-  read-first r e f n b x h = first-stop r (readingTest n (recordAt rest)) _ (e n (b .looked)) f
-
-  pub then-fits : (r f : ℕ) → ((n : Seen) → Looked s rs ts k n → r ≡ readingTest n (recordAt rest)) → r ≡ 0 → TestsFitness s rs ts k a rest w T f
-      → (n : Seen) → Before s rs ts k a n → (x : State) → Held w T S x → f ≡ recordTest (record { seen = n; state = x }) (recordAt rest)
-  unfolding recordTest
-  then-fits r f e z t n b x h = first-go r (readingTest n (recordAt rest)) _ f (e n (b .looked)) z (t n b S x h)
-
--- ---- what each kind asks of its record
+-- ---- before the turn: it is ready, and q is what tests 5 to 12 answer
 
 body-few : (rest : List ℕ) → length rest ≤ 16384 → length (recordAt rest .body) < 65536
 unfolding recordAt
@@ -66,107 +56,140 @@ body-few rest h = simp (length-take, length-drop) (omega arith)
 one-below : (x n : ℕ) → below n (x ∷ []) ≡ true → x < n
 one-below x n h = ltb-true x n (both (ltb x n) true h .0)
 
-module _ (s rs ts : List ℕ) (k : Counts) (rest : List ℕ) (p : PassedTests s rs ts k rest) where
+module _ {s rs ts : List ℕ} {k : Counts} {rest : List ℕ} {i : ℕ} {T S m : List ℕ} {w : Writer} (ready : Ready s rs ts k rest i T S m w)
+    {q : ℕ} (reads : (n : Seen) → Looked s rs ts k n → q ≡ readingTest n (recordAt rest)) where
   abbrev r : Record
   r = recordAt rest
 
-  passed-told : (f : Fields Entry) → entryOf r ≡ f → Told (p .seen) r f
-  passed-told f e = told (p .seen) r f e (p .tested)
+  abbrev l : ℕ
+  l = length (r .body) + 3
 
-  -- the types that were read are counted
-  counted-types : length (p .seen .types) ≡ k .types
-  counted-types = p .looked .counted .types
+  abbrev us : List Defined.TypeEntry
+  us = typesFrom s ts (k .types)
 
-  pub type-tested : tagRank (r .tag) ≡ 3 → Types.TypeTested r
-  type-tested e = let t = passed-told (typeOf r) (is-type r e) in record { whole = t .whole; values = t .values }
+  -- one of those tests refuses
+  pub read-first : (a : Available) → (q ≡ 0 → ⊥) → (n : Seen) → Before s rs ts k a n → (x : State) → Held w T S x → q ≡ recordTest (record { seen = n; state = x }) r
+  unfolding recordTest
+  read-first a f n b x h = first-stop q (readingTest n r) _ (reads n (b .looked)) f
 
-  pub constant-tested : tagRank (r .tag) ≡ 4 → length rest ≤ 16384 → Constants.ConstantTested (k .types) r
-  constant-tested e h =
-      let t = passed-told (constantOf r) (is-constant r e) in
-      record { whole = t .whole; values = t .values; types = rw (← counted-types) (names-types (p .seen) r (constantOf r) t); small = body-few rest h }
+  -- ---- all of them pass
 
-  pub global-tested : tagRank (r .tag) ≡ 5 → Globals.GlobalTested (k .types) r
-  global-tested e =
-      let t = passed-told (globalOf r) (is-global r e) in
-      record { whole = t .whole; values = t .values; type = one-below _ (k .types) (rw (← counted-types) (names-types (p .seen) r (globalOf r) t)) }
+  module _ (passed : q ≡ 0) where
+    tested : readingTest (ready .seen) r ≡ 0
+    tested = sym (reads (ready .seen) (ready .looked)) ∙ passed
 
-  -- a rank that is none of these is that of Available or Remap, whose entries are not declared
-  other : (P : Entry → Type 0) → ((cs : List ℕ) → P (available cs)) → ((m : Remap) → P (remap m)) → (q : ℕ) → q ≡ tagRank (r .tag) → (q ≡ 3 → ⊥) → (q ≡ 4 → ⊥) → (q ≡ 5 → ⊥) → P (entryOf r .value)
-  other P a m q e f g h = by-rank (λ (j : ℕ). tagRank (r .tag) ≡ j → P (entryOf r .value))
-      (λ z. subst (λ (x : Fields Entry). P (x .value)) (sym (is-available r z)) (a _))
-      (λ z. subst (λ (x : Fields Entry). P (x .value)) (sym (is-remap r z)) (m _))
-      (λ z. absurd (f (e ∙ z))) (λ z. absurd (g (e ∙ z))) (λ z. absurd (h (e ∙ z)))
-      (tagRank (r .tag)) (placed-of (p .seen) r (p .tested) .ranked) (rank-most (r .tag)) refl
+    passed-told : (f : Fields Entry) → entryOf r ≡ f → Told (ready .seen) r f
+    passed-told f e = told (ready .seen) r f e tested
 
-  -- ---- tests 13 and 14
+    -- the types that were read are counted, and stand in their slice
+    counted-types : length (ready .seen .types) ≡ k .types
+    counted-types = ready .looked .counted .types
 
-  module _ (v : Available) (w : Writer) (T : List ℕ) where
-    pub type-fitness : tagRank (r .tag) ≡ 3 → (q : ℕ) → ((o : Option (List ℕ)) → Flagged o v → q ≡ unless (shapeAvailable o (shapeOf (Defined.typeFields (r .tag) (r .body) (nameEnd (r .body) 0) .value))) 14 0) → TestsFitness s rs ts k v rest w T q
+    few-types : k .types ≤ length ts
+    few-types = omega (arith, ready .stored .types)
+
+    -- room for a record of a rank
+    rank-room : (j : ℕ) → tagRank (r .tag) ≡ j → Room (entryCost j l) w T S
+    rank-room j e = subst (λ (x : ℕ). Room (entryCost x l) w T S) e (ready .room tested)
+
+    -- ---- what each kind asks of its record
+
+    pub type-asks : tagRank (r .tag) ≡ 3 → (k .types ≤ length ts) × ((k .types < 65536) × (TypeTested r × Room (recordCost l) w T S))
+    type-asks e =
+        let t = passed-told (typeOf r) (is-type r e) in
+        (few-types, (omega (arith, ready .few), (record { whole = t .whole; values = t .values }, rank-room 3 e)))
+
+    pub constant-asks : tagRank (r .tag) ≡ 4 → (k .types ≤ length ts) × (ConstantTested (k .types) r × (Room (recordCost l) w T S × Memo us m))
+    constant-asks e =
+        let t = passed-told (constantOf r) (is-constant r e) in
+        (few-types, (record { whole = t .whole; values = t .values; types = rw (← counted-types) (names-types (ready .seen) r (constantOf r) t); small = body-few rest (ready .small) }, (rank-room 4 e, ready .memo)))
+
+    pub global-asks : tagRank (r .tag) ≡ 5 → (k .types ≤ length ts) × ((k .remaps ≤ length rs) × (GlobalTested (k .types) r × (Room (recordCost l) w T S × Memo us m)))
+    global-asks e =
+        let t = passed-told (globalOf r) (is-global r e) in
+        (few-types, (ready .stored .remaps, (record { whole = t .whole; values = t .values; type = one-below _ (k .types) (rw (← counted-types) (names-types (ready .seen) r (globalOf r) t)) }, (rank-room 5 e, ready .memo))))
+
+    -- ---- what a kind comes to is what the record comes to
+
+    -- a rank that is none of these is that of Available or Remap, whose entries are not declared
+    other : (P : Entry → Type 0) → ((cs : List ℕ) → P (available cs)) → ((x : Remap) → P (remap x)) → (j : ℕ) → j ≡ tagRank (r .tag) → (j ≡ 3 → ⊥) → (j ≡ 4 → ⊥) → (j ≡ 5 → ⊥) → P (entryOf r .value)
+    other P a x j e f g h = by-rank (λ (y : ℕ). tagRank (r .tag) ≡ y → P (entryOf r .value))
+        (λ z. subst (λ (y : Fields Entry). P (y .value)) (sym (is-available r z)) (a _))
+        (λ z. subst (λ (y : Fields Entry). P (y .value)) (sym (is-remap r z)) (x _))
+        (λ z. absurd (f (e ∙ z))) (λ z. absurd (g (e ∙ z))) (λ z. absurd (h (e ∙ z)))
+        (tagRank (r .tag)) (placed-of (ready .seen) r tested .ranked) (rank-most (r .tag)) refl
+
+    module _ (o : Options) (a : Available) {T′ S′ m′ : List ℕ} where
+      -- its entry's test decides, since those before passed, and its entry is what is written
+      comes : (c : RecordOutcome) → Memo us m′ → ((n : Seen) → Before s rs ts k a n → (x : State) → Held w T S x → c .refused ≡ fitnessTest n x (entryOf r .value))
+          → (c .refused ≡ 0 → EntryWritten s rs ts k rest o w T S (c .writer) T′ S′) → RecordWritten s rs ts k a rest o w T S c T′ S′ m′
+      unfolding recordTest
+      comes c memo f g = record {
+        memo = memo;
+        told = λ n b x h. first-go q (readingTest n r) _ (c .refused) (reads n (b .looked)) passed (f n b x h);
+        written = g;
+      }
+
+      pub type-comes : tagRank (r .tag) ≡ 3 → {c : RecordOutcome} → Memo us m′ → ComesTo (TestsType a r) (λ v. Kept (recordCost l) (declareType (o .debug) us (recordType r)) w T S v T′ S′) c
+          → RecordWritten s rs ts k a rest o w T S c T′ S′ m′
+      unfolding fitnessTest
+      type-comes e {c = c} memo d = comes c memo (λ n b x h. d .told (n .available) (b .available) ∙ sym (ap (λ (f : Fields Entry). fitnessTest n x (f .value)) (is-type r e))) (λ z. record {
+        grown = rw e (d .written z .grown);
+        held = λ n b x h. let u = sym (b .types) in subst (Held (c .writer) T′ S′)
+            ((λ j. declareType (o .debug) (u j) (recordType r) x) ∙ sym (ap (λ (f : Fields Entry). declareEntry o n (f .value) x) (is-type r e))) (d .written z .held x h);
+      })
+
+      pub constant-comes : tagRank (r .tag) ≡ 4 → {c : RecordOutcome} → Memo us m′
+          → ComesTo (TestsUnfit (λ x. constantFits us x (Defined.constantFields (r .tag) (r .body) .value)) w T) (λ v. ConstantWritten (recordCost l) us (Defined.constantFields (r .tag) (r .body) .value) w T S v T′ S′) c
+          → RecordWritten s rs ts k a rest o w T S c T′ S′ m′
+      unfolding fitnessTest
+      constant-comes e {c = c} memo d = comes c memo (λ n b x h.
+          d .told S x h ∙ ap (λ (vs : List Defined.TypeEntry). unless (constantFits vs x (Defined.constantFields (r .tag) (r .body) .value)) 13 0) (sym (b .looked .types))
+          ∙ sym (ap (λ (f : Fields Entry). fitnessTest n x (f .value)) (is-constant r e))) (λ z. record {
+            grown = rw e (d .written z .grown);
+            held = λ n b x h. let u = sym (b .types) in subst (Held (c .writer) T′ S′)
+                ((λ j. declareConstant (u j) (Defined.constantFields (r .tag) (r .body) .value) x) ∙ sym (ap (λ (f : Fields Entry). declareEntry o n (f .value) x) (is-constant r e))) (d .written z .held x h);
+          })
+
+      pub global-comes : tagRank (r .tag) ≡ 5 → {c : RecordOutcome} → Memo us m′
+          → ComesTo (TestsUnfit (λ x. globalFits us x (globalIn r)) w T) (λ v. GlobalKept (recordCost l) o us (map (remapFrom s) (take (k .remaps) rs)) (globalIn r) w T S v T′ S′) c
+          → RecordWritten s rs ts k a rest o w T S c T′ S′ m′
+      unfolding fitnessTest
+      global-comes e {c = c} memo d = comes c memo (λ n b x h.
+          d .told S x h ∙ ap (λ (vs : List Defined.TypeEntry). unless (globalFits vs x (globalIn r)) 13 0) (sym (b .looked .types))
+          ∙ sym (ap (λ (f : Fields Entry). fitnessTest n x (f .value)) (is-global r e))) (λ z. record {
+            grown = rw e (d .written z .grown);
+            held = λ n b x h. subst (Held (c .writer) T′ S′)
+                (sym (ap (λ (f : Fields Entry). declareEntry o n (f .value) x) (is-global r e))) (d .written z .held n (b .types) (b .remaps) x h);
+          })
+
+    -- Available and Remap: neither a test nor a declaration
+    pub other-comes : (o : Options) (a : Available) → (j : ℕ) → j ≡ tagRank (r .tag) → (j ≡ 3 → ⊥) → (j ≡ 4 → ⊥) → (j ≡ 5 → ⊥) → RecordWritten s rs ts k a rest o w T S (record { refused = 0; writer = w }) T S m
     unfolding fitnessTest
-    type-fitness e q d n b S x h = d (n .available) (b .available) ∙ sym (ap (λ (f : Fields Entry). fitnessTest n x (f .value)) (is-type r e))
+    other-comes o a j e f g h = comes o a (record { refused = 0; writer = w }) (ready .memo)
+        (λ n b x y. other (λ (z : Entry). 0 ≡ fitnessTest n x z) (λ cs. refl) (λ v. refl) j e f g h) (λ z. record {
+          grown = still;
+          held = λ n b x y. other (λ (v : Entry). Held w T S (declareEntry o n v x)) (λ cs. y) (λ v. y) j e f g h;
+        })
+      where
+        still : Grown (costAt rest) w w
+        still = omega arith
 
-    pub constant-fitness : tagRank (r .tag) ≡ 4 → (q : ℕ) (a : Bool) → q ≡ unless a 13 0 → ((S : List ℕ) (x : State) → Held w T S x → a ≡ constantFits (typesFrom s ts (k .types)) x (Defined.constantFields (r .tag) (r .body) .value)) → TestsFitness s rs ts k v rest w T q
-    unfolding fitnessTest
-    constant-fitness e q a d c n b S x h =
-        d ∙ ap (λ (y : Bool). unless y 13 0) (c S x h ∙ ap (λ (us : List Defined.TypeEntry). constantFits us x (Defined.constantFields (r .tag) (r .body) .value)) (sym (b .looked .types)))
-        ∙ sym (ap (λ (f : Fields Entry). fitnessTest n x (f .value)) (is-constant r e))
+-- ---- what was taken from a record by its tag and body
 
-    pub global-fitness : tagRank (r .tag) ≡ 5 → (q : ℕ) (a : Bool) → q ≡ unless a 13 0 → ((S : List ℕ) (x : State) → Held w T S x → a ≡ globalFits (typesFrom s ts (k .types)) x (Defined.globalFields (r .body) (nameEnd (r .body) 0) .value)) → TestsFitness s rs ts k v rest w T q
-    unfolding fitnessTest
-    global-fitness e q a d c n b S x h =
-        d ∙ ap (λ (y : Bool). unless y 13 0) (c S x h ∙ ap (λ (us : List Defined.TypeEntry). globalFits us x (Defined.globalFields (r .body) (nameEnd (r .body) 0) .value)) (sym (b .looked .types)))
-        ∙ sym (ap (λ (f : Fields Entry). fitnessTest n x (f .value)) (is-global r e))
+module _ (r : Record) (b : List ℕ) (eb : b ≡ r .body) where
+  module _ (t : ℕ) (et : t ≡ r .tag) where
+    pub type-taken : (i : TypeInner) → TypeTaken t b (nameEnd b 0) i → TypeTaken (r .tag) (r .body) (nameEnd (r .body) 0) i
+    type-taken i h = rw (et, eb) at h
 
-    pub other-fitness : (q : ℕ) → q ≡ tagRank (r .tag) → (q ≡ 3 → ⊥) → (q ≡ 4 → ⊥) → (q ≡ 5 → ⊥) → TestsFitness s rs ts k v rest w T 0
-    unfolding fitnessTest
-    other-fitness q e f g i n b S x h = other (λ (y : Entry). 0 ≡ fitnessTest n x y) (λ cs. refl) (λ m. refl) q e f g i
+    pub constant-taken : (e : Expression) → ConstantTaken t b e → ConstantTaken (r .tag) (r .body) e
+    constant-taken e h = rw (et, eb) at h
 
-  -- ---- the entry is declared
+    -- a type's test is of what its fields say
+    pub type-told : (o : Option (List ℕ)) (q : Bool) (i : TypeInner) → TypeTaken t b (nameEnd b 0) i → TypeTested r
+        → ((c : List ℕ) (n : ℕ) → innerOf c n i ≡ Defined.typeFields t c n .value → q ≡ shapeAvailable o (shapeOf (Defined.typeFields t c n .value)))
+        → q ≡ shapeAvailable o (shapeOf (Defined.typeFields (r .tag) (r .body) (nameEnd (r .body) 0) .value))
+    type-told o q i h d f = (rw et at f) (r .body) (nameEnd (r .body) 0) (type-taken i h (d .values))
 
-  module _ (o : Options) (w : Writer) (T S : List ℕ) (v : Writer) (T′ S′ : List ℕ) where
-    abbrev l : ℕ
-    l = length (r .body) + 3
-
-    pub type-written : tagRank (r .tag) ≡ 3 → Kept (recordCost l) (declareType (o .debug) (typesFrom s ts (k .types)) (recordType r)) w T S v T′ S′ → EntryWritten s rs ts k rest o w T S v T′ S′
-    type-written e q = record {
-      grown = rw e (q .grown);
-      held = λ n b x h. let u = sym (b .types) in subst (Held v T′ S′)
-          ((λ i. declareType (o .debug) (u i) (recordType r) x) ∙ sym (ap (λ (f : Fields Entry). declareEntry o n (f .value) x) (is-type r e))) (q .held x h);
-    }
-
-    pub constant-written : tagRank (r .tag) ≡ 4 → ConstantWritten (recordCost l) (typesFrom s ts (k .types)) (Defined.constantFields (r .tag) (r .body) .value) w T S v T′ S′ → EntryWritten s rs ts k rest o w T S v T′ S′
-    constant-written e q = record {
-      grown = rw e (q .grown);
-      held = λ n b x h. let u = sym (b .types) in subst (Held v T′ S′)
-          ((λ i. declareConstant (u i) (Defined.constantFields (r .tag) (r .body) .value) x) ∙ sym (ap (λ (f : Fields Entry). declareEntry o n (f .value) x) (is-constant r e))) (q .held x h);
-    }
-
-    pub global-written : tagRank (r .tag) ≡ 5 → GlobalKept (recordCost l) o (typesFrom s ts (k .types)) (map (remapFrom s) (take (k .remaps) rs)) (Defined.globalFields (r .body) (nameEnd (r .body) 0) .value) w T S v T′ S′ → EntryWritten s rs ts k rest o w T S v T′ S′
-    global-written e q = record {
-      grown = rw e (q .grown);
-      held = λ n b x h. subst (Held v T′ S′)
-          (sym (ap (λ (f : Fields Entry). declareEntry o n (f .value) x) (is-global r e))) (q .held n (b .types) (b .remaps) x h);
-    }
-
-  pub other-written : (o : Options) (w : Writer) (T S : List ℕ) (q : ℕ) → q ≡ tagRank (r .tag) → (q ≡ 3 → ⊥) → (q ≡ 4 → ⊥) → (q ≡ 5 → ⊥) → EntryWritten s rs ts k rest o w T S w T S
-  other-written o w T S q e f g i = record {
-    grown = still;
-    held = λ n b x h. other (λ (y : Entry). Held w T S (declareEntry o n y x)) (λ cs. h) (λ m. h) q e f g i;
-  }
-    where
-      still : Grown (costAt rest) w w
-      still = omega arith
-
--- a type's fields are those of its record
-pub type-told : (o : Option (List ℕ)) (rest : List ℕ) (t : ℕ) (b : List ℕ) (i : TypeInner) (r : Bool) → t ≡ recordAt rest .tag → b ≡ recordAt rest .body
-    → TypeTaken t b (nameEnd b 0) i → ((b′ : List ℕ) (n : ℕ) → r ≡ shapeAvailable o (shapeOf (innerOf b′ n i)))
-    → innerFits (Defined.typeFields (recordAt rest .tag) (recordAt rest .body) (nameEnd (recordAt rest .body) 0) .value) ≡ true
-    → r ≡ shapeAvailable o (shapeOf (Defined.typeFields (recordAt rest .tag) (recordAt rest .body) (nameEnd (recordAt rest .body) 0) .value))
-type-told o rest t b i r et eb k e f =
-    e b (nameEnd b 0) ∙ ap (λ (x : Defined.TypeInner). shapeAvailable o (shapeOf x)) (k (rw (et, eb) f))
-    ∙ (λ j. shapeAvailable o (shapeOf (Defined.typeFields (et j) (eb j) (nameEnd (eb j) 0) .value)))
-
--- of a record's type nothing is checked, if nothing is of its tag
-pub type-unchecked : (o : Option (List ℕ)) (rest : List ℕ) (t : ℕ) → t ≡ recordAt rest .tag → ((b : List ℕ) (n : ℕ) → shapeAvailable o (shapeOf (Defined.typeFields t b n .value)) ≡ true)
-    → 0 ≡ unless (shapeAvailable o (shapeOf (Defined.typeFields (recordAt rest .tag) (recordAt rest .body) (nameEnd (recordAt rest .body) 0) .value))) 14 0
-type-unchecked o rest t e h = ap (λ (b : Bool). unless b 14 0) (sym (rw e at (h (recordAt rest .body) (nameEnd (recordAt rest .body) 0))))
+  pub global-taken : (g : GlobalVariable) → GlobalTaken b g → GlobalTaken (r .body) g
+  global-taken g h = rw eb at h

@@ -1,15 +1,19 @@
 -- A record's turn: what is asked before it, and what it promises.
 use Prim.Native.Nat.{ℕ, _+_, _≤_}
 use mathlib.Core.Path.{_≡_}
+use mathlib.Core.Bool.{Bool}
 use mathlib.Core.List.{List}
+use mathlib.Core.Option.{Option}
 use lib.Dec.{ltb}
 use lib.ListN.{length}
-use Rattle.definition.specs.Choice.{pick}
-use Rattle.definition.specs.Sheet.{Options, recordAt, entryOf, tagRank}
+use Rattle.definition.specs.Bytes.{nameEnd}
+use Rattle.definition.specs.Choice.{pick, unless}
+use Rattle.definition.specs.Sheet.{Record, Options, recordAt, typeFields, entryOf, tagRank}
+use Rattle.definition.specs.Shapes.{shapeOf}
 use Rattle.definition.specs.Tests.{Seen, readingTest}
 use Rattle.definition.specs.State.{State}
 use Rattle.definition.specs.Rules.{declareEntry}
-use Rattle.definition.specs.Unfit.{fitnessTest}
+use Rattle.definition.specs.Unfit.{shapeAvailable}
 use Rattle.definition.specs.Operations.{recordTest}
 use Rattle.records.specs.declared.Counts.{Counts}
 use Rattle.records.specs.Places.{typesFrom}
@@ -46,18 +50,20 @@ pub record Ready (s rs ts : List ℕ) (k : Counts) (rest : List ℕ) (h : ℕ) (
   pub few : k .types ≤ 256
   pub small : length rest ≤ 16384
   pub memo : Memo (typesFrom s ts (k .types)) m
-  pub no-room : Room noCost w T S
   pub room : readingTest seen (recordAt rest) ≡ 0 → Room (costAt rest) w T S
 
--- the record at the front of what is left passed tests 5 to 12
-pub record PassedTests (s rs ts : List ℕ) (k : Counts) (rest : List ℕ) : Type 0 where
-  pub seen : Seen
-  pub looked : Looked s rs ts k seen
-  pub tested : readingTest seen (recordAt rest) ≡ 0
+-- test 14 of a type's record, by the flags of what is available
+abbrev pub TestsType : Available → Record → ℕ → Type 0
+TestsType a r q = (o : Option (List ℕ)) → Flagged o a → q ≡ unless (shapeAvailable o (shapeOf (typeFields (r .tag) (r .body) (nameEnd (r .body) 0) .value))) 14 0
 
--- tests 13 and 14, in whatever state is held
-abbrev pub TestsFitness : List ℕ → List ℕ → List ℕ → Counts → Available → List ℕ → Writer → List ℕ → ℕ → Type 0
-TestsFitness s rs ts k a rest w T r = (n : Seen) → Before s rs ts k a n → (S : List ℕ) (x : State) → Held w T S x → r ≡ fitnessTest n x (entryOf (recordAt rest) .value)
+-- test 13, in whatever state is held
+abbrev pub TestsUnfit : (State → Bool) → Writer → List ℕ → ℕ → Type 0
+TestsUnfit fits w T q = (S : List ℕ) (x : State) → Held w T S x → q ≡ unless (fits x) 13 0
+
+-- what a record of one kind comes to: the number that its own test answers, and where that is 0 its entry is written
+pub record ComesTo (Tests : ℕ → Type 0) (Writes : Writer → Type 0) (r : RecordOutcome) : Type 0 where
+  pub told : Tests (r .refused)
+  pub written : r .refused ≡ 0 → Writes (r .writer)
 
 -- the record's entry is declared
 pub record EntryWritten (s rs ts : List ℕ) (k : Counts) (rest : List ℕ) (o : Options) (w : Writer) (T S : List ℕ) (v : Writer) (T′ S′ : List ℕ) : Type 0 where

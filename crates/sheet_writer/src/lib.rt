@@ -1,30 +1,35 @@
 // The records of a sheet, each tested in the state that those before it left and then declared: what all three operations
 // share. It decides refusals in document 01's order: 13 at one record comes before 5 at the next. 15 is left to the operations.
 use availability::Available;
+use entries::types::TypeInner;
 use records::Counts;
 use records::Options;
 use sheet::hash;
 use sheet::holding;
 use writer::Writer;
 ghost use mathlib.Core.Path.{_≡_};
-ghost use mathlib.Core.Bool.{true};
-ghost use mathlib.Core.List.{List};
+ghost use mathlib.Core.List.{List, map};
 ghost use mathlib.Core.Option.{Option};
-ghost use Prim.Native.Nat.{ℕ, _≤_};
-ghost use lib.ListN.{length};
-ghost use Rattle.definition.specs.Choice.{unless};
-ghost use Rattle.definition.specs.Bytes.{nameEnd};
-ghost use Rattle.definition.specs.Sheet.{recordAt, typeFields};
-ghost use Rattle.definition.specs.Tests.{innerFits};
+ghost use Prim.Native.Nat.{ℕ, _+_, _<_, _≤_};
+ghost use lib.ListN.{length, take};
+ghost use Rattle.definition.specs.Sheet.{recordAt, typeFields, constantFields};
 ghost use Rattle.definition.specs.Shapes.{shapeOf};
-ghost use Rattle.definition.specs.Unfit.{shapeAvailable};
+ghost use Rattle.definition.specs.Rules.{declareType};
+ghost use Rattle.definition.specs.Unfit.{shapeAvailable, constantFits, globalFits};
 ghost use Rattle.records.specs.Flags.{optionsFrom};
-ghost use Rattle.records.specs.Places.{typesFrom, placesOf, Ample};
+ghost use Rattle.records.specs.Places.{typeOfRecord, remapFrom, typesFrom, placesOf, Ample};
 ghost use Rattle.zeroable.specs.Memo.{Memo};
+ghost use Rattle.entries.specs.Types.{innerOf};
 ghost use Rattle.availability.specs.Flags.{Flagged};
-ghost use Rattle.writer.specs.Cost.{noCost};
-ghost use Rattle.writer.specs.Held.{RoomIn, Room};
-ghost use Rattle.sheet_writer.specs.Turning.{costAt, Ready, PassedTests, TestsFitness, EntryWritten, RecordWritten};
+ghost use Rattle.writer.specs.Cost.{recordCost};
+ghost use Rattle.writer.specs.Held.{Room};
+ghost use Rattle.writer.specs.Steps.{Kept};
+ghost use Rattle.writer_types.specs.Tested.{TypeTested};
+ghost use Rattle.writer_constants.specs.Tested.{ConstantTested};
+ghost use Rattle.writer_constants.specs.Entered.{ConstantWritten};
+ghost use Rattle.writer_globals.specs.Records.{globalIn, GlobalTested};
+ghost use Rattle.writer_globals.specs.Globals.{GlobalKept};
+ghost use Rattle.sheet_writer.specs.Turning.{Ready, ComesTo, TestsType, TestsUnfit, RecordWritten};
 ghost use Rattle.sheet_writer.specs.Whole.{Capacity, SheetWritten};
 
 // What a record's turn comes to: the number of the first test that fails, or 0 and the writer after its declaration.
@@ -39,59 +44,89 @@ pub enum Outcome {
     Fit(Counts, Writer),
 }
 
-// Test 14 of a type. Where no type of its tag can fail it, the type is not read.
-fn type_test(available: Available, rest: &[u8]) -> u8
-    requires { ⌜ innerFits (typeFields (recordAt (now rest) .tag) (recordAt (now rest) .body) (nameEnd (recordAt (now rest) .body) 0) .value) ≡ true ⌝ }
-    ensures { λ r. ⌜ ((o : Option (List ℕ)) → Flagged o available → r ≡ unless (shapeAvailable o (shapeOf (typeFields (recordAt (now (rest .entry)) .tag) (recordAt (now (rest .entry)) .body) (nameEnd (recordAt (now (rest .entry)) .body) 0) .value))) 14 0) ⌝ }
+// Test 14 of a type of a tag, taken as `ty`. Where no type of the tag can fail it, nothing is asked.
+fn type_fits(available: Available, tag: u8, ty: TypeInner) -> bool
+    ensures { λ r. ⌜ ((o : Option (List ℕ)) → Flagged o available → (b : List ℕ) (n : ℕ) → innerOf b n ty ≡ typeFields tag b n .value → r ≡ shapeAvailable o (shapeOf (typeFields tag b n .value))) ⌝ }
+{
+    if !availability::is_checked(tag) {
+        return true;
+    }
+    availability::type_available(available, ty)
+}
+
+// The type of the record at the front of `rest`, which passed the tests before: test 14, then its declaration.
+fn write_type(
+    tables: &mut [u64],
+    sections: &mut [u32],
+    w: Writer,
+    s: &[u8],
+    types: &[u32],
+    n: usize,
+    available: Available,
+    rest: &[u8],
+    debug: bool,
+) -> RecordOutcome
+    requires { ⌜ (n ≤ length (now types)) × ((n < 65536) × (TypeTested (recordAt (now rest)) × Room (recordCost (length (recordAt (now rest) .body) + 3)) w (now tables) (now sections))) ⌝ }
+    ensures { λ r. ⌜ ComesTo (TestsType available (recordAt (now (rest .entry)))) (λ v. Kept (recordCost (length (recordAt (now (rest .entry)) .body) + 3)) (declareType debug (typesFrom (now (s .entry)) (now (types .entry)) n) (typeOfRecord (recordAt (now (rest .entry))))) w (now (tables .entry)) (now (sections .entry)) v (now (tables .exit)) (now (sections .exit))) r ⌝ }
 {
     let tag = records::tag_of(rest);
-    if !availability::is_checked(tag) {
-        return 0;
+    let ty = entries::types::inner_of(tag, records::body_of(rest));
+    if !type_fits(available, tag, ty) {
+        return RecordOutcome {
+            refused: 14,
+            writer: w,
+        };
     }
-    let t = entries::types::inner_of(tag, records::body_of(rest));
-    if !availability::type_available(available, t) {
-        return 14;
+    let v = writer_types::write_type_declaration_arena(
+        tables,
+        sections,
+        w,
+        s,
+        types,
+        n,
+        rest,
+        ty,
+        debug,
+    );
+    RecordOutcome {
+        refused: 0,
+        writer: v,
     }
-    0
 }
 
-// 13 where a record's entry does not fit.
-fn unfit(fits: bool) -> u8
-    ensures { λ r. ⌜ r ≡ unless fits 13 0 ⌝ }
-{
-    if !fits {
-        return 13;
-    }
-    0
-}
-
-// Tests 13 and 14 of the record at the front of what is left, which passed those before: the number that fails, or 0.
-fn fitness_test(
-    tables: &[u64],
+// The same of a constant: test 13, then its declaration.
+fn write_constant(
+    tables: &mut [u64],
+    sections: &mut [u32],
     memo: &mut [u8],
     w: Writer,
     s: &[u8],
-    remaps: &[u32],
     types: &[u32],
-    k: Counts,
-    available: Available,
+    n: usize,
     rest: &[u8],
-) -> u8
-    requires { ⌜ PassedTests (now s) (now remaps) (now types) k (now rest) × ((k .types ≤ length (now types)) × ((length (now rest) ≤ 16384) × (RoomIn noCost w (now tables) × Memo (typesFrom (now s) (now types) (k .types)) (now memo)))) ⌝ }
-    ensures { λ r. ⌜ TestsFitness (now (s .entry)) (now (remaps .entry)) (now (types .entry)) k available (now (rest .entry)) w (now (tables .entry)) r × Memo (typesFrom (now (s .entry)) (now (types .entry)) (k .types)) (now (memo .exit)) ⌝ }
+) -> RecordOutcome
+    requires { ⌜ (n ≤ length (now types)) × (ConstantTested n (recordAt (now rest)) × (Room (recordCost (length (recordAt (now rest) .body) + 3)) w (now tables) (now sections) × Memo (typesFrom (now s) (now types) n) (now memo))) ⌝ }
+    ensures { λ r. ⌜ ComesTo (TestsUnfit (λ x. constantFits (typesFrom (now (s .entry)) (now (types .entry)) n) x (constantFields (recordAt (now (rest .entry)) .tag) (recordAt (now (rest .entry)) .body) .value)) w (now (tables .entry))) (λ v. ConstantWritten (recordCost (length (recordAt (now (rest .entry)) .body) + 3)) (typesFrom (now (s .entry)) (now (types .entry)) n) (constantFields (recordAt (now (rest .entry)) .tag) (recordAt (now (rest .entry)) .body) .value) w (now (tables .entry)) (now (sections .entry)) v (now (tables .exit)) (now (sections .exit))) r × Memo (typesFrom (now (s .entry)) (now (types .entry)) n) (now (memo .exit)) ⌝ }
 {
-    match records::rank_of(records::tag_of(rest)) {
-        3 => type_test(available, rest),
-        4 => unfit(writer_constants::constant_fits(tables, w, s, types, k.types, memo, rest)),
-        5 => unfit(writer_globals::fitness::global_fits(tables, w, s, types, k.types, memo, rest)),
-        _ => 0,
+    let expr = entries::constants::expression_of(records::tag_of(rest), records::body_of(rest));
+    if !writer_constants::constant_fits(tables, w, s, types, n, memo, rest, expr) {
+        return RecordOutcome {
+            refused: 13,
+            writer: w,
+        };
+    }
+    let v = writer_constants::write_constant(tables, sections, w, s, types, n, rest, expr);
+    RecordOutcome {
+        refused: 0,
+        writer: v,
     }
 }
 
-// Declares the entry of the record at the front of what is left, which passed its tests.
-fn write_entry(
+// The same of a global.
+fn write_global(
     tables: &mut [u64],
     sections: &mut [u32],
+    memo: &mut [u8],
     w: Writer,
     s: &[u8],
     remaps: &[u32],
@@ -99,28 +134,37 @@ fn write_entry(
     k: Counts,
     rest: &[u8],
     options: Options,
-) -> Writer
-    requires { ⌜ PassedTests (now s) (now remaps) (now types) k (now rest) × ((k .remaps ≤ length (now remaps)) × ((k .types ≤ length (now types)) × ((k .types ≤ 256) × ((length (now rest) ≤ 16384) × Room (costAt (now rest)) w (now tables) (now sections))))) ⌝ }
-    ensures { λ r. ⌜ EntryWritten (now (s .entry)) (now (remaps .entry)) (now (types .entry)) k (now (rest .entry)) (optionsFrom options) w (now (tables .entry)) (now (sections .entry)) r (now (tables .exit)) (now (sections .exit)) ⌝ }
+) -> RecordOutcome
+    requires { ⌜ (k .types ≤ length (now types)) × ((k .remaps ≤ length (now remaps)) × (GlobalTested (k .types) (recordAt (now rest)) × (Room (recordCost (length (recordAt (now rest) .body) + 3)) w (now tables) (now sections) × Memo (typesFrom (now s) (now types) (k .types)) (now memo)))) ⌝ }
+    ensures { λ r. ⌜ ComesTo (TestsUnfit (λ x. globalFits (typesFrom (now (s .entry)) (now (types .entry)) (k .types)) x (globalIn (recordAt (now (rest .entry))))) w (now (tables .entry))) (λ v. GlobalKept (recordCost (length (recordAt (now (rest .entry)) .body) + 3)) (optionsFrom options) (typesFrom (now (s .entry)) (now (types .entry)) (k .types)) (map (remapFrom (now (s .entry))) (take (k .remaps) (now (remaps .entry)))) (globalIn (recordAt (now (rest .entry)))) w (now (tables .entry)) (now (sections .entry)) v (now (tables .exit)) (now (sections .exit))) r × Memo (typesFrom (now (s .entry)) (now (types .entry)) (k .types)) (now (memo .exit)) ⌝ }
 {
-    match records::rank_of(records::tag_of(rest)) {
-        3 => writer_types::write_type_declaration_arena(
-            tables,
-            sections,
-            w,
-            s,
-            types,
-            k.types,
-            rest,
-            options.debug,
-        ),
-        4 => writer_constants::write_constant(tables, sections, w, s, types, k.types, rest),
-        5 => writer_globals::write_global(tables, sections, w, s, types, remaps, k, rest, options),
-        _ => w,
+    let global = entries::globals::global_of(records::body_of(rest));
+    if !writer_globals::fitness::global_fits(tables, w, s, types, k.types, memo, global) {
+        return RecordOutcome {
+            refused: 13,
+            writer: w,
+        };
+    }
+    let v = writer_globals::write_global(
+        tables,
+        sections,
+        w,
+        s,
+        types,
+        remaps,
+        k,
+        rest,
+        global,
+        options,
+    );
+    RecordOutcome {
+        refused: 0,
+        writer: v,
     }
 }
 
-// The turn of the record at the front of what is left: tests 5 to 14, then its declaration. A type's hash is given.
+// The turn of the record at the front of what is left: tests 5 to 12, then those of its kind and its declaration. A type's hash is
+// given. Each kind takes its entry from the record once, for its test and for its declaration.
 fn write_record(
     tables: &mut [u64],
     sections: &mut [u32],
@@ -145,17 +189,35 @@ fn write_record(
             writer: w,
         };
     }
-    let f = fitness_test(tables, memo, w, s, remaps, types, k, available, rest);
-    if f != 0 {
-        return RecordOutcome {
-            refused: f,
+    match records::rank_of(records::tag_of(rest)) {
+        3 => write_type(
+            tables,
+            sections,
+            w,
+            s,
+            types,
+            k.types,
+            available,
+            rest,
+            options.debug,
+        ),
+        4 => write_constant(tables, sections, memo, w, s, types, k.types, rest),
+        5 => write_global(
+            tables,
+            sections,
+            memo,
+            w,
+            s,
+            remaps,
+            types,
+            k,
+            rest,
+            options,
+        ),
+        _ => RecordOutcome {
+            refused: 0,
             writer: w,
-        };
-    }
-    let v = write_entry(tables, sections, w, s, remaps, types, k, rest, options);
-    RecordOutcome {
-        refused: 0,
-        writer: v,
+        },
     }
 }
 

@@ -62,8 +62,6 @@ module _ (n : ℕ) (r : Record) (t : ConstantTested n r) where
       → ConstantWritten (recordCost (length (r .body) + 3)) ts (fieldsOf r .value) w T S v T′ S′
   written ts w T S v T′ S′ h = record { grown = omega (arith, cheap .0, h .grown); held = h .held }
 
-  -- what the program takes for the constant is the constant
-  pub is-taken : (tag : ℕ) (b : List ℕ) → tag ≡ r .tag → b ≡ r .body → (e : Read.Expression) → ConstantTaken tag b e → expressionOf b e ≡ fieldsOf r .value
-  is-taken tag b et eb e h =
-      let p : constantFields tag b ≡ fieldsOf r = λ j. constantFields (et j) (eb j) in
-      h (ap (λ (f : Fields Expression). expressionFits (f .value)) p ∙ t .values) ∙ ap (λ (f : Fields Expression). f .value) p
+  -- what was taken for the constant is the constant
+  pub is-taken : (b : List ℕ) → b ≡ r .body → (e : Read.Expression) → ConstantTaken (r .tag) (r .body) e → expressionOf b e ≡ fieldsOf r .value
+  is-taken b eb e h = ap (λ (x : List ℕ). expressionOf x e) eb ∙ h (t .values)

@@ -2,7 +2,7 @@
 -- The rule is restated as a function of its parts (`run`), so that each part's equation goes in by itself.
 use Prim.Native.Nat.{ℕ, suc, _+_}
 use mathlib.Core.Path.{_≡_, refl, sym, ap, _∙_, subst, fun-ext}
-use mathlib.Core.Bool.{Bool, true, _&&_, _||_}
+use mathlib.Core.Bool.{Bool, _&&_, _||_}
 use mathlib.Core.List.{List}
 use mathlib.Core.Option.{Option}
 use native.Mathlib.Omega.{arith}
@@ -10,9 +10,9 @@ use lib.Dec.{eqb}
 use lib.ListN.{length}
 use Rattle.definition.specs.Bytes.{nameAt, nameEnd}
 use Rattle.definition.specs.Instructions.{name, variable}
-use Rattle.definition.specs.Sheet.{Record, TypeEntry, Remap, Global, Options, globalFields, global}
+use Rattle.definition.specs.Sheet.{Record, TypeEntry, Remap, Global, Options, globalFields}
 use Rattle.definition.specs.Shapes.{storageClass}
-use Rattle.definition.specs.Tests.{Seen, valuesFit}
+use Rattle.definition.specs.Tests.{Seen}
 use Rattle.definition.specs.State.{State, Got, takeId, declareAlone}
 use Rattle.definition.specs.Rules.{labelIf, innerAt, accessOf, decorateAccess, decorateBinding, pointerOf, blockBase, bindingBase, initFor, declareGlobal}
 use Rattle.kinds.specs.Numbers.{spaceNumber, spaceAccess}
@@ -136,9 +136,9 @@ declared o ts rs b g {w = w} {T = T} {S = S} {t = t} p₀ q₁ {a = a} ea q₂ q
 -- ---- of a record
 
 module _ {n : ℕ} (r : Record) (tested : GlobalTested n r) {b : List ℕ} (eb : b ≡ r .body) where
-  -- what was taken from its body is its global
-  pub as-read : (g : GlobalVariable) → Read b g → globalOf b g ≡ globalIn r
-  as-read g t = t (subst (λ (x : List ℕ). valuesFit (global (globalFields x (nameEnd x 0) .value)) ≡ true) (sym eb) (tested .values)) ∙ ap (λ (x : List ℕ). globalFields x (nameEnd x 0) .value) eb
+  -- what was taken for its global is its global
+  pub as-read : (g : GlobalVariable) → Read (r .body) g → globalOf b g ≡ globalIn r
+  as-read g t = ap (λ (x : List ℕ). globalOf x g) eb ∙ t (tested .values)
 
   -- three bytes stand before its body, and fifteen behind its name
   price : AtMost (globalCost (nameEnd b 0)) (recordCost (length (r .body) + 3))

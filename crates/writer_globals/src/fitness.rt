@@ -12,7 +12,7 @@ ghost use Prim.Native.Nat.{ℕ, _<_, _≤_};
 ghost use lib.Dec.{eqb};
 ghost use lib.ListN.{length};
 ghost use Rattle.definition.specs.Choice.{among};
-ghost use Rattle.definition.specs.Sheet.{Global, recordAt, privateSpace, workGroupSpace, uniformSpace, storageSpace, handleSpace};
+ghost use Rattle.definition.specs.Sheet.{Global, privateSpace, workGroupSpace, uniformSpace, storageSpace, handleSpace};
 ghost use Rattle.definition.specs.State.{State};
 ghost use Rattle.definition.specs.Unfit.{initFits};
 ghost use Rattle.kinds.specs.Numbers.{spaceNumber};
@@ -21,7 +21,6 @@ ghost use Rattle.zeroable.specs.Memo.{Memo};
 ghost use Rattle.entries.specs.Globals.{globalOf, initConstant, boundNumber};
 ghost use Rattle.writer.specs.Cost.{noCost};
 ghost use Rattle.writer.specs.Held.{Held, RoomIn};
-ghost use Rattle.writer_globals.specs.Records.{globalIn, GlobalTested};
 ghost use Rattle.writer_globals.specs.Fitness.{TestsGlobal};
 
 // Whether a space may hold bound globals.
@@ -82,41 +81,7 @@ fn init_fits(tables: &[u64], w: Writer, init: Init, space: AddressSpace, ty: u16
     }
 }
 
-// Whether the global g fits, given the first n types of the sheet s.
-fn variable_fits(
-    tables: &[u64],
-    w: Writer,
-    s: &[u8],
-    types: &[u32],
-    n: usize,
-    memo: &mut [u8],
-    g: GlobalVariable,
-) -> bool
-    requires { ⌜ (n ≤ length (now types)) × (g .ty < n) × RoomIn noCost w (now tables) × Memo (typesFrom (now s) (now types) n) (now memo) ⌝ }
-    ensures { λ r. ⌜ ((b : List ℕ) → TestsGlobal (typesFrom (now (s .entry)) (now (types .entry)) n) (globalOf b g) w (now (tables .entry)) r (now (memo .exit))) ⌝ }
-{
-    let space = g.space;
-    let binding = g.binding;
-    let init = g.init;
-    if let AddressSpace::Function = space {
-        return false;
-    }
-    if type_facts::is_pointer(s, types, n, g.ty as usize) {
-        return false;
-    }
-    if !bound_space_fits(binding, space) {
-        return false;
-    }
-    if !init_fits(tables, w, init, space, g.ty) {
-        return false;
-    }
-    if is_zeroed(space) {
-        return zeroable::is_zeroable(s, types, n, g.ty as usize, memo);
-    }
-    true
-}
-
-// Whether the global of the record at the front of `rest` fits.
+// Whether a global fits, given the first n types of the sheet.
 pub fn global_fits(
     tables: &[u64],
     w: Writer,
@@ -124,11 +89,28 @@ pub fn global_fits(
     types: &[u32],
     ntypes: usize,
     memo: &mut [u8],
-    rest: &[u8],
+    global: GlobalVariable,
 ) -> bool
-    requires { ⌜ (ntypes ≤ length (now types)) × GlobalTested ntypes (recordAt (now rest)) × RoomIn noCost w (now tables) × Memo (typesFrom (now sheet) (now types) ntypes) (now memo) ⌝ }
-    ensures { λ r. ⌜ TestsGlobal (typesFrom (now (sheet .entry)) (now (types .entry)) ntypes) (globalIn (recordAt (now (rest .entry)))) w (now (tables .entry)) r (now (memo .exit)) ⌝ }
+    requires { ⌜ (ntypes ≤ length (now types)) × (global .ty < ntypes) × RoomIn noCost w (now tables) × Memo (typesFrom (now sheet) (now types) ntypes) (now memo) ⌝ }
+    ensures { λ r. ⌜ ((b : List ℕ) → TestsGlobal (typesFrom (now (sheet .entry)) (now (types .entry)) ntypes) (globalOf b global) w (now (tables .entry)) r (now (memo .exit))) ⌝ }
 {
-    let g = entries::globals::global_of(records::body_of(rest));
-    variable_fits(tables, w, sheet, types, ntypes, memo, g)
+    let space = global.space;
+    let binding = global.binding;
+    let init = global.init;
+    if let AddressSpace::Function = space {
+        return false;
+    }
+    if type_facts::is_pointer(sheet, types, ntypes, global.ty as usize) {
+        return false;
+    }
+    if !bound_space_fits(binding, space) {
+        return false;
+    }
+    if !init_fits(tables, w, init, space, global.ty) {
+        return false;
+    }
+    if is_zeroed(space) {
+        return zeroable::is_zeroable(sheet, types, ntypes, global.ty as usize, memo);
+    }
+    true
 }

@@ -36,7 +36,7 @@ ghost use Rattle.definition.specs.Rules.{initFor};
 ghost use Rattle.kinds.specs.Numbers.{spaceNumber};
 ghost use Rattle.records.specs.Flags.{optionsFrom};
 ghost use Rattle.records.specs.Places.{remapFrom, typesFrom};
-ghost use Rattle.entries.specs.Globals.{initConstant};
+ghost use Rattle.entries.specs.Globals.{initConstant, GlobalTaken};
 ghost use Rattle.writer.specs.Cost.{recordCost};
 ghost use Rattle.writer.specs.Held.{Room};
 ghost use Rattle.finding.specs.Costs.{nullCost};
@@ -175,8 +175,8 @@ fn write_global_variable(
     sections::variable(sections, z.writer, p.id, id, class, initializer)
 }
 
-// The global of the record at the front of `rest`, given what was read before it: what test 10 lets through is declared as it was
-// read.
+// The global of the record at the front of `rest`, taken as `global`, given what was read before it: what test 10 lets through is
+// declared as it was read.
 pub fn write_global(
     tables: &mut [u64],
     sections: &mut [u32],
@@ -186,21 +186,21 @@ pub fn write_global(
     remaps: &[u32],
     counts: Counts,
     rest: &[u8],
+    global: GlobalVariable,
     options: Options,
 ) -> Writer
-    requires { ⌜ (counts .types ≤ length (now types)) × (counts .remaps ≤ length (now remaps)) × GlobalTested (counts .types) (recordAt (now rest)) × Room (recordCost (length (recordAt (now rest) .body) + 3)) w (now tables) (now sections) ⌝ }
+    requires { ⌜ (counts .types ≤ length (now types)) × (counts .remaps ≤ length (now remaps)) × GlobalTested (counts .types) (recordAt (now rest)) × GlobalTaken (recordAt (now rest) .body) global × Room (recordCost (length (recordAt (now rest) .body) + 3)) w (now tables) (now sections) ⌝ }
     ensures { λ r. ⌜ GlobalKept (recordCost (length (recordAt (now (rest .entry)) .body) + 3)) (optionsFrom options) (typesFrom (now (sheet .entry)) (now (types .entry)) (counts .types)) (map (remapFrom (now (sheet .entry))) (take (counts .remaps) (now (remaps .entry)))) (globalIn (recordAt (now (rest .entry)))) w (now (tables .entry)) (now (sections .entry)) r (now (tables .exit)) (now (sections .exit)) ⌝ }
 {
     let b = records::body_of(rest);
-    let g = entries::globals::global_of(b);
     let plan = plan_of(
         sheet,
         types,
         counts.types,
         remaps,
         counts.remaps,
-        g,
+        global,
         options.zeroing,
     );
-    write_global_variable(tables, sections, w, b, g, plan, options.debug)
+    write_global_variable(tables, sections, w, b, global, plan, options.debug)
 }

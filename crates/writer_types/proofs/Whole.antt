@@ -3,21 +3,21 @@
 -- made, of the fields that were read.
 use Prim.Native.Nat.{ℕ, suc, _+_}
 use mathlib.Core.Path.{_≡_, refl, sym, ap, _∙_, subst}
-use mathlib.Core.Bool.{Bool, true}
+use mathlib.Core.Bool.{Bool}
 use mathlib.Core.List.{List}
 use mathlib.Core.Option.{Option, none}
 use native.Mathlib.Omega.{arith}
 use lib.ListN.{length}
 use Rattle.definition.specs.Bytes.{nameAt, nameEnd}
 use Rattle.definition.specs.Instructions.{name}
-use Rattle.definition.specs.Sheet.{Record, TypeInner, TypeEntry, typeFields, membersAt}
-use Rattle.definition.specs.Tests.{innerFits}
+use Rattle.definition.specs.Sheet.{Record, TypeInner, TypeEntry, membersAt}
 use Rattle.definition.specs.Shapes.{Shape, shapeOf, entry, shape}
 use Rattle.definition.specs.State.{State, takeId, enter}
 use Rattle.definition.specs.Finding.{find}
 use Rattle.definition.specs.Rules.{declareAggregate, declareInner, declareType, declareStruct, labelIf}
 use Rattle.records.specs.Places.{typeOfRecord}
 use Rattle.entries.specs.declared.types.TypeInner as Program
+use Rattle.entries.specs.Types.{TypeTaken}
 use Rattle.lookup.specs.declared.LocalType.{LocalType}
 use Rattle.lookup.specs.Local.{localShape as localShape}
 use Rattle.locals.specs.declared.MaybeLocal.{MaybeLocal}
@@ -84,10 +84,12 @@ module _ (i : TypeInner) (m : MaybeLocal) (em : madeOf m ≡ shapeOf i) (w : Wri
 
 -- ---- the record that was read
 
-module _ (r : Record) (h : TypeTested r) (t : ℕ) (b : List ℕ) (et : t ≡ r .tag) (eb : b ≡ r .body) (i : TypeInner)
-    (told : innerFits (typeFields t b (nameEnd b 0) .value) ≡ true → i ≡ typeFields t b (nameEnd b 0) .value) where
+module _ (r : Record) (h : TypeTested r) (b : List ℕ) (eb : b ≡ r .body) (t : Program.TypeInner) (told : TypeTaken (r .tag) (r .body) (nameEnd (r .body) 0) t) where
+  abbrev i : TypeInner
+  i = innerIn b t
+
   inner-is : i ≡ typeOfRecord r .inner
-  inner-is = told (rw (et, eb) (h .values)) ∙ (λ j. typeFields (et j) (eb j) (nameEnd (eb j) 0) .value)
+  inner-is = ap (λ (x : List ℕ). innerIn x t) eb ∙ told (h .values)
 
   pub enough : AtMost (entryCost i (nameLength (nameAt b 0))) (recordCost (length (r .body) + 3))
   enough = rw (inner-is, eb) (type-bytes (r .tag) (r .body) (h .whole))

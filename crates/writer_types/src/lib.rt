@@ -11,9 +11,11 @@ use writer::Taken;
 use writer::Writer;
 ghost use Prim.Native.Nat.{_+_, _≤_, _<_};
 ghost use lib.ListN.{length};
+ghost use Rattle.definition.specs.Bytes.{nameEnd};
 ghost use Rattle.definition.specs.Sheet.{recordAt};
 ghost use Rattle.definition.specs.Rules.{declareAggregate, declareType};
 ghost use Rattle.records.specs.Places.{typeOfRecord, typesFrom};
+ghost use Rattle.entries.specs.Types.{TypeTaken};
 ghost use Rattle.writer.specs.Cost.{recordCost};
 ghost use Rattle.writer.specs.Held.{Room};
 ghost use Rattle.writer.specs.Steps.{Kept, GotBy};
@@ -124,8 +126,8 @@ fn declare_inner(
     }
 }
 
-// The type of the record at the front of `rest`, which passed its tests; the n types before it stand at their places. Its
-// own key comes behind all that it is made of, so that nothing in it can name it.
+// The type of the record at the front of `rest`, which passed its tests and was taken as `ty`; the n types before it stand at their
+// places. Its own key comes behind all that it is made of, so that nothing in it can name it.
 pub fn write_type_declaration_arena(
     tables: &mut [u64],
     sections: &mut [u32],
@@ -134,14 +136,14 @@ pub fn write_type_declaration_arena(
     types: &[u32],
     ntypes: usize,
     rest: &[u8],
+    ty: TypeInner,
     debug: bool,
 ) -> Writer
-    requires { ⌜ (ntypes ≤ length (now types)) × ((ntypes < 65536) × (TypeTested (recordAt (now rest)) × Room (recordCost (length (recordAt (now rest) .body) + 3)) w (now tables) (now sections))) ⌝ }
+    requires { ⌜ (ntypes ≤ length (now types)) × ((ntypes < 65536) × (TypeTested (recordAt (now rest)) × (TypeTaken (recordAt (now rest) .tag) (recordAt (now rest) .body) (nameEnd (recordAt (now rest) .body) 0) ty × Room (recordCost (length (recordAt (now rest) .body) + 3)) w (now tables) (now sections)))) ⌝ }
     ensures { λ r. ⌜ Kept (recordCost (length (recordAt (now (rest .entry)) .body) + 3)) (declareType debug (typesFrom (now (sheet .entry)) (now (types .entry)) ntypes) (typeOfRecord (recordAt (now (rest .entry))))) w (now (tables .entry)) (now (sections .entry)) r (now (tables .exit)) (now (sections .exit)) ⌝ }
 {
     let b = records::body_of(rest);
-    let t = entries::types::inner_of(records::tag_of(rest), b);
-    let g = declare_inner(tables, sections, w, sheet, types, ntypes, b, debug, t);
+    let g = declare_inner(tables, sections, w, sheet, types, ntypes, b, debug, ty);
     let k = lookup::key(LookupType::Handle(ntypes as u16));
     let v = writer::enter_type(tables, g.writer, k, g.id);
     names::name_type(sections, v, b, debug, g.id)

@@ -1,38 +1,43 @@
--- Tests 5 to 12, then 13 and 14, then the declaration: the definition's `recordTest` and `declareEntry`.
-use Rattle.sheet_writer.proofs.Turns.{read-first, then-fits}
-use denote.Ref.{now}
-use mathlib.Core.Path.{sym, _∙_}
-use native.Mathlib.Omega.{arith}
+-- Tests 5 to 12, and where they pass what the record's kind comes to: the definition's `recordTest` and `declareEntry` (Turns).
+use mathlib.Core.Path.{sym, ap, _∙_}
 use borrow.Author.Needs.{needs}
+use Rattle.definition.specs.Sheet.{tagRank}
+use Rattle.records.specs.Flags.{optionsFrom}
+use Rattle.sheet_writer.proofs.Turns.{read-first, type-asks, constant-asks, global-asks, type-comes, constant-comes, global-comes, other-comes}
 use Rattle.sheet_writer.proofs.write_record.Statement.{statement}
 use Rattle.sheet_writer.proofs.write_record.Tie as tie
-
-returns : tie.Need-returns
-returns c = let a = c .before .before .before .before .before .before .before .before .before .args in let r = c .before .record-test in
-    record { memo = c .before .before .before .before .before .before .before .before .before .pre .memo; told = read-first (now (a .s)) (now (a .remaps)) (now (a .types)) (a .k) (a .available) (now (a .rest)) (a .w) (a .tables .now) (a .sections .now) (r .result) (r .ensures) (c .if1 .taken); written = λ z. absurd (c .if1 .taken z) }
-
-fitness-test-requires : tie.Need-fitness-test-requires
-fitness-test-requires c κs = let r = c .before .before .before .record-test in
-    (record { seen = c .before .before .before .before .before .before .before .before .before .before .before .pre .seen; looked = c .before .before .before .before .before .before .before .before .before .before .before .pre .looked; tested = sym (r .ensures (c .before .before .before .before .before .before .before .before .before .before .before .pre .seen) (c .before .before .before .before .before .before .before .before .before .before .before .pre .looked)) ∙ c .before .before .if1 .left }, (omega (arith, c .before .before .before .before .before .before .before .before .before .before .before .pre .stored .types), (c .before .before .before .before .before .before .before .before .before .before .before .pre .small, (c .before .before .before .before .before .before .before .before .before .before .before .pre .no-room .rows, c .before .before .before .before .before .before .before .before .before .before .before .pre .memo))))
-
-returns-2 : tie.Need-returns-2
-returns-2 c = let a = c .before .before .before .before .before .before .before .before .before .before .before .before .before .before .before .args in let r = c .before .before .before .before .before .before .before .record-test in let f = c .before .before .before .fitness-test in
-    record { memo = f .ensures .1; told = then-fits (now (a .s)) (now (a .remaps)) (now (a .types)) (a .k) (a .available) (now (a .rest)) (a .w) (a .tables .now) (a .sections .now) (r .result) (f .result) (r .ensures) (c .before .before .before .before .before .before .if1 .left) (f .ensures .0); written = λ z. absurd (c .if2 .taken z) }
-
-write-entry-requires : tie.Need-write-entry-requires
-write-entry-requires c κs = let r = c .before .before .before .before .before .before .before .before .before .record-test in
-    let z = sym (r .ensures (c .before .before .before .before .before .before .before .before .before .before .before .before .before .before .before .before .before .pre .seen) (c .before .before .before .before .before .before .before .before .before .before .before .before .before .before .before .before .before .pre .looked)) ∙ c .before .before .before .before .before .before .before .before .if1 .left in
-    (record { seen = c .before .before .before .before .before .before .before .before .before .before .before .before .before .before .before .before .before .pre .seen; looked = c .before .before .before .before .before .before .before .before .before .before .before .before .before .before .before .before .before .pre .looked; tested = z }, (c .before .before .before .before .before .before .before .before .before .before .before .before .before .before .before .before .before .pre .stored .remaps, (omega (arith, c .before .before .before .before .before .before .before .before .before .before .before .before .before .before .before .before .before .pre .stored .types), (c .before .before .before .before .before .before .before .before .before .before .before .before .before .before .before .before .before .pre .few, (c .before .before .before .before .before .before .before .before .before .before .before .before .before .before .before .before .before .pre .small, c .before .before .before .before .before .before .before .before .before .before .before .before .before .before .before .before .before .pre .room z)))))
-
-returns-3 : tie.Need-returns-3
-returns-3 c = let a = c .before .before .before .before .before .before .before .before .before .before .before .before .before .before .before .before .before .before .before .before .before .before .args in let r = c .before .before .before .before .before .before .before .before .before .before .before .before .before .before .record-test in let f = c .before .before .before .before .before .before .before .before .before .before .fitness-test in let v = c .before .before .before .before .write-entry in
-    record { memo = f .ensures .1; told = λ n b x h. sym (c .before .before .before .before .before .before .before .if2 .left) ∙ then-fits (now (a .s)) (now (a .remaps)) (now (a .types)) (a .k) (a .available) (now (a .rest)) (a .w) (a .tables .now) (a .sections .now) (r .result) (f .result) (r .ensures) (c .before .before .before .before .before .before .before .before .before .before .before .before .before .if1 .left) (f .ensures .0) n b x h; written = λ z. v .ensures }
 
 record-test-requires : tie.Need-record-test-requires
 record-test-requires c κs = (c .before .before .before .before .before .before .before .pre .stored, c .before .before .before .before .before .before .before .pre .hash)
 
+returns : tie.Need-returns
+returns c = record { memo = c .before .before .before .before .before .before .before .before .before .pre .memo; told = read-first (c .before .before .before .before .before .before .before .before .before .pre) (c .before .record-test .ensures) (c .before .before .before .before .before .before .before .before .before .args .available) (c .if1 .taken); written = λ z. absurd (c .if1 .taken z) }
+
+write-type-requires : tie.Need-write-type-requires
+write-type-requires c κs = type-asks (c .before .before .before .before .before .before .before .before .before .before .before .before .before .before .pre) (c .before .before .before .before .before .before .record-test .ensures) (c .before .before .before .before .before .if1 .left) (ap tagRank (sym (c .before .before .before .before .tag-of .ensures)) ∙ sym (c .before .before .before .rank-of .ensures) ∙ c .before .before .match .keys1)
+
+write-constant-requires : tie.Need-write-constant-requires
+write-constant-requires c κs = constant-asks (c .before .before .before .before .before .before .before .before .before .before .before .before .before .before .before .pre) (c .before .before .before .before .before .before .before .record-test .ensures) (c .before .before .before .before .before .before .if1 .left) (ap tagRank (sym (c .before .before .before .before .before .tag-of .ensures)) ∙ sym (c .before .before .before .before .rank-of .ensures) ∙ c .before .before .before .match .keys2)
+
+write-global-requires : tie.Need-write-global-requires
+write-global-requires c κs = global-asks (c .before .before .before .before .before .before .before .before .before .before .before .before .before .before .before .pre) (c .before .before .before .before .before .before .before .record-test .ensures) (c .before .before .before .before .before .before .if1 .left) (ap tagRank (sym (c .before .before .before .before .before .tag-of .ensures)) ∙ sym (c .before .before .before .before .rank-of .ensures) ∙ c .before .before .before .match .keys3)
+
+returns-2 : tie.Need-returns-2
+returns-2 c = type-comes (c .before .before .before .before .before .before .before .before .before .before .before .before .before .before .before .before .before .before .before .pre) (c .before .before .before .before .before .before .before .before .before .before .before .record-test .ensures) (c .before .before .before .before .before .before .before .before .before .before .if1 .left) (optionsFrom (c .before .before .before .before .before .before .before .before .before .before .before .before .before .before .before .before .before .before .before .args .options)) (c .before .before .before .before .before .before .before .before .before .before .before .before .before .before .before .before .before .before .before .args .available) (ap tagRank (sym (c .before .before .before .before .before .before .before .before .before .tag-of .ensures)) ∙ sym (c .before .before .before .before .before .before .before .before .rank-of .ensures) ∙ c .before .before .before .before .before .before .before .match .keys1) (c .before .before .before .before .before .before .before .before .before .before .before .before .before .before .before .before .before .before .before .pre .memo) (c .before .before .before .before .write-type .ensures)
+
+returns-3 : tie.Need-returns-3
+returns-3 c = constant-comes (c .before .before .before .before .before .before .before .before .before .before .before .before .before .before .before .before .before .before .before .before .before .before .pre) (c .before .before .before .before .before .before .before .before .before .before .before .before .before .before .record-test .ensures) (c .before .before .before .before .before .before .before .before .before .before .before .before .before .if1 .left) (optionsFrom (c .before .before .before .before .before .before .before .before .before .before .before .before .before .before .before .before .before .before .before .before .before .before .args .options)) (c .before .before .before .before .before .before .before .before .before .before .before .before .before .before .before .before .before .before .before .before .before .before .args .available) (ap tagRank (sym (c .before .before .before .before .before .before .before .before .before .before .before .before .tag-of .ensures)) ∙ sym (c .before .before .before .before .before .before .before .before .before .before .before .rank-of .ensures) ∙ c .before .before .before .before .before .before .before .before .before .before .match .keys2) (c .before .before .before .before .before .before .write-constant .ensures .1) (c .before .before .before .before .before .before .write-constant .ensures .0)
+
+returns-4 : tie.Need-returns-4
+returns-4 c = global-comes (c .before .before .before .before .before .before .before .before .before .before .before .before .before .before .before .before .before .before .before .before .before .before .pre) (c .before .before .before .before .before .before .before .before .before .before .before .before .before .before .record-test .ensures) (c .before .before .before .before .before .before .before .before .before .before .before .before .before .if1 .left) (optionsFrom (c .before .before .before .before .before .before .before .before .before .before .before .before .before .before .before .before .before .before .before .before .before .before .args .options)) (c .before .before .before .before .before .before .before .before .before .before .before .before .before .before .before .before .before .before .before .before .before .before .args .available) (ap tagRank (sym (c .before .before .before .before .before .before .before .before .before .before .before .before .tag-of .ensures)) ∙ sym (c .before .before .before .before .before .before .before .before .before .before .before .rank-of .ensures) ∙ c .before .before .before .before .before .before .before .before .before .before .match .keys3) (c .before .before .before .before .before .before .write-global .ensures .1) (c .before .before .before .before .before .before .write-global .ensures .0)
+
+returns-5 : tie.Need-returns-5
+returns-5 c = other-comes (c .before .before .before .before .before .before .before .before .before .before .before .before .pre) (c .before .before .before .before .record-test .ensures) (c .before .before .before .if1 .left) (optionsFrom (c .before .before .before .before .before .before .before .before .before .before .before .before .args .options)) (c .before .before .before .before .before .before .before .before .before .before .before .before .args .available) (c .before .rank-of .result) (c .before .rank-of .ensures ∙ ap tagRank (c .before .before .tag-of .ensures)) (c .match .rest .0 .0 .1) (c .match .rest .0 .1) (c .match .rest .1)
+
 pub write-record-spec : {M : Type 1} → statement M
 write-record-spec =
     tie.close
-    (tie.spec record-test-requires returns fitness-test-requires (λ c. search needs) (λ c. search needs) returns-2
-    write-entry-requires (λ c. search needs) (λ c. search needs) (λ c. search needs) returns-3)
+    (tie.spec record-test-requires returns (λ c κs. search needs) (λ c κs. search needs) write-type-requires
+    write-constant-requires write-global-requires (λ c. search needs) (λ c. search needs) returns-2 (λ c. search needs)
+    (λ c. search needs) (λ c. search needs) returns-3 (λ c. search needs) (λ c. search needs) (λ c. search needs) returns-4
+    returns-5)

@@ -12,27 +12,20 @@ use Rattle.writer_constants.proofs.constant_fits.Tie as tie
 
 expression-fits-requires : tie.Need-expression-fits-requires
 expression-fits-requires c κs =
-    let a = c .before .before .before .before .before .before .before .before .before .args in
-    let p = c .before .before .before .before .before .before .before .before .before .pre in
-    let t = c .before .before .tag-of in
-    let b = c .before .before .before .body-of in
-    let e = c .before .expression-of in
-    let q = is-taken (a .ntypes) (recordAt (a .rest .now)) (p .1 .0) (t .result) (b .result .now) (t .ensures) (b .ensures) (e .result) (e .ensures) in
-    (p .0, (subst (λ (x : Expression). below (a .ntypes) (expressionTypes x) ≡ true) (sym q) (p .1 .0 .types), p .1 .1))
+    let a = c .before .before .before .before .before .before .before .args in
+    let p = c .before .before .before .before .before .before .before .pre in
+    let b = c .before .body-of in
+    let q = is-taken (a .ntypes) (recordAt (a .rest .now)) (p .1 .0) (b .result .now) (b .ensures) (a .expr) (p .1 .1 .0) in
+    (p .0, (subst (λ (x : Expression). below (a .ntypes) (expressionTypes x) ≡ true) (sym q) (p .1 .0 .types), p .1 .1 .1))
 
 returns : tie.Need-returns
 returns c =
-    let a = c .before .before .before .before .before .before .before .before .before .before .before .before .args in
-    let p = c .before .before .before .before .before .before .before .before .before .before .before .before .pre in
-    let t = c .before .before .before .before .before .tag-of in
-    let b = c .before .before .before .before .before .before .body-of in
-    let e = c .before .before .before .before .expression-of in
+    let a = c .before .before .before .before .before .before .before .before .before .before .args in
+    let p = c .before .before .before .before .before .before .before .before .before .before .pre in
+    let b = c .before .before .before .before .body-of in
     let f = c .before .before .expression-fits in
-    let q = is-taken (a .ntypes) (recordAt (a .rest .now)) (p .1 .0) (t .result) (b .result .now) (t .ensures) (b .ensures) (e .result) (e .ensures) in
+    let q = is-taken (a .ntypes) (recordAt (a .rest .now)) (p .1 .0) (b .result .now) (b .ensures) (a .expr) (p .1 .1 .0) in
     (subst (λ (x : Expression). TestsConstant (typesFrom (a .sheet .now) (a .types .now) (a .ntypes)) x (a .w) (a .tables .now) (f .result)) q (f .ensures .0), f .ensures .1)
 
 pub constant-fits-spec : {M : Type 1} → statement M
-constant-fits-spec =
-    tie.close
-    (tie.spec (λ c κs. search needs) (λ c κs. search needs) (λ c κs. search needs) expression-fits-requires (λ c. search needs)
-    returns)
+constant-fits-spec = tie.close (tie.spec (λ c κs. search needs) expression-fits-requires (λ c. search needs) returns)

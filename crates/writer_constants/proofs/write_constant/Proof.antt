@@ -11,30 +11,26 @@ use Rattle.writer_constants.proofs.write_constant.Tie as tie
 
 write-constant-expr-requires : tie.Need-write-constant-expr-requires
 write-constant-expr-requires c κs =
-    let a = c .before .before .before .before .before .before .before .before .before .before .args in
-    let p = c .before .before .before .before .before .before .before .before .before .before .pre in
+    let a = c .before .before .before .before .before .before .before .before .args in
+    let p = c .before .before .before .before .before .before .before .before .pre in
     let r = recordAt (a .rest .now) in
-    let t = c .before .before .before .tag-of in
-    let b = c .before .before .before .before .body-of in
-    let e = c .before .before .expression-of in
-    let q = is-taken (a .ntypes) r (p .1 .0) (t .result) (b .result .now) (t .ensures) (b .ensures) (e .result) (e .ensures) in (
+    let b = c .before .before .body-of in
+    let q = is-taken (a .ntypes) r (p .1 .0) (b .result .now) (b .ensures) (a .expr) (p .1 .1 .0) in (
       p .0,
       (
         subst FewParts (sym q) (few (a .ntypes) r (p .1 .0)),
-        subst (λ (x : Expression). Room (expressionCost x) (a .w) (a .tables .now) (a .sections .now)) (sym q) (roomy (a .ntypes) r (p .1 .0) (a .w) (a .tables .now) (a .sections .now) (p .1 .1)),
+        subst (λ (x : Expression). Room (expressionCost x) (a .w) (a .tables .now) (a .sections .now)) (sym q) (roomy (a .ntypes) r (p .1 .0) (a .w) (a .tables .now) (a .sections .now) (p .1 .1 .1)),
       ),
     )
 
 returns : tie.Need-returns
 returns c =
-    let a = c .before .before .before .before .before .before .before .before .before .before .before .before .before .before .before .args in
-    let p = c .before .before .before .before .before .before .before .before .before .before .before .before .before .before .before .pre in
+    let a = c .before .before .before .before .before .before .before .before .before .before .before .before .before .args in
+    let p = c .before .before .before .before .before .before .before .before .before .before .before .before .before .pre in
     let r = recordAt (a .rest .now) in
-    let t = c .before .before .before .before .before .before .before .before .tag-of in
-    let b = c .before .before .before .before .before .before .before .before .before .body-of in
-    let e = c .before .before .before .before .before .before .before .expression-of in
+    let b = c .before .before .before .before .before .before .before .body-of in
     let x = c .before .before .before .before .write-constant-expr in
-    let q = is-taken (a .ntypes) r (p .1 .0) (t .result) (b .result .now) (t .ensures) (b .ensures) (e .result) (e .ensures) in
+    let q = is-taken (a .ntypes) r (p .1 .0) (b .result .now) (b .ensures) (a .expr) (p .1 .1 .0) in
     let ts = typesFrom (a .sheet .now) (a .types .now) (a .ntypes) in
     written (a .ntypes) r (p .1 .0) ts (a .w) (a .tables .now) (a .sections .now) (x .result) (x .last .0) (x .last .1 .0)
     (subst (λ (y : Expression). ConstantWritten (expressionCost y) ts y (a .w) (a .tables .now) (a .sections .now) (x .result) (x .last .0) (x .last .1 .0)) q (x .ensures))
@@ -42,5 +38,4 @@ returns c =
 pub write-constant-spec : {M : Type 1} → statement M
 write-constant-spec =
     tie.close
-    (tie.spec (λ c κs. search needs) (λ c κs. search needs) (λ c κs. search needs) write-constant-expr-requires
-    (λ c. search needs) (λ c. search needs) returns)
+    (tie.spec (λ c κs. search needs) write-constant-expr-requires (λ c. search needs) (λ c. search needs) returns)
