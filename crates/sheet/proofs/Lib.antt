@@ -2,3 +2,4 @@ pub mod Comparing
 pub mod Hashes
 pub mod Earlier
 pub mod Adding
+pub mod Order

@@ -1,5 +1,6 @@
-// A record's own tests, 5 to 12 of document 01 in its order, and what is held of the records that passed them: their places,
-// the types' hashes and the counts. It reads no field but to compare (12), and declares nothing.
+// A record's own tests, 5 to 12 of document 01 in its order: `records` has 5 to 7 and `sheet_fields` 8 to 11, each in their order,
+// and 12 is here. And what is held of the records that passed them: their places, the types' hashes and the counts. It reads no
+// field but to compare (12), and declares nothing.
 mod bodies;
 pub mod hash;
 pub mod holding;
@@ -18,20 +19,9 @@ fn entry_test(s: &[u8], remaps: &[u32], types: &[u32], k: Counts, t: u8, b: &[u8
     requires { ⌜ Stored (now s) (now remaps) (now types) k × HashFor (recordOf t (now b)) hash ⌝ }
     ensures { λ r. ⌜ ((n : Seen) → Looked (now (s .entry)) (now (remaps .entry)) (now (types .entry)) k n → r ≡ entryTest n (recordOf t (now (b .entry))) (entryOf (recordOf t (now (b .entry))) .value) (entryOf (recordOf t (now (b .entry))) .end)) ⌝ }
 {
-    if !sheet_fields::form_known(t, b) {
-        return 10;
-    }
-    if sheet_fields::fields_end(t, b) != b.len() {
-        return 8;
-    }
-    if !sheet_fields::names_fit(t, b) {
-        return 9;
-    }
-    if !sheet_fields::values_fit(t, b) {
-        return 10;
-    }
-    if !sheet_fields::read_already(t, b, k.types, k.constants) {
-        return 11;
+    let f = sheet_fields::fields_test(t, b, k.types, k.constants);
+    if f != 0 {
+        return f;
     }
     if repeats::is_repeated(s, remaps, types, k, t, b, hash) {
         return 12;

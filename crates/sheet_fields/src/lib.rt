@@ -1,7 +1,7 @@
-// The fields of a record, by its tag: where they end (test 8), its names (9), its values (10) and its references (11).
-// Each function answers for every tag and every body, whether or not the tests before it passed; document 01's order of them is
-// kept by `sheet`. No field is kept here: `entries` takes them by value once the tests are passed. What is no tag,
-// which test 5 refuses, has a global's fields, here as in the definition.
+// A record's fields, by its tag: tests 8 to 11 in document 01's order, where the fields end (8), the names (9), the values (10)
+// and the references (11), each over the whole record; `sheet` puts tests 5 to 7 before them and 12 behind. There is a test for
+// each kind of record, which finds the end of the name once. No field is kept here: `entries` takes them by value once the tests
+// are passed. What is no tag, which test 5 refuses, has a global's fields, here as in the definition.
 mod constants;
 mod globals;
 mod members;
@@ -9,15 +9,13 @@ mod types;
 mod values;
 
 ghost use mathlib.Core.Path.{_≡_};
-ghost use mathlib.Core.Bool.{_&&_};
-ghost use Rattle.definition.specs.Choice.{every};
-ghost use Rattle.definition.specs.Utf8.{nameFits};
-ghost use Rattle.definition.specs.Sheet.{entryOf};
-ghost use Rattle.definition.specs.Tests.{formKnown, namesOf, valuesFit, typesNamed, constantsNamed, below};
-ghost use Rattle.sheet_fields.specs.Fields.{recordOf};
+ghost use Rattle.definition.specs.Bytes.{nameEnd};
+ghost use Rattle.definition.specs.Sheet.{mapFields, available, availableFields, remap, remapFields, type, typeEntry, typeFields, constant, constantFields, global, globalFields};
+ghost use Rattle.definition.specs.Tests.{formKnown};
+ghost use Rattle.sheet_fields.specs.Fields.{recordOf, testsOf, fieldsTest};
 
 // The part of test 10 that comes before test 8: a literal's form is known.
-pub fn form_known(tag: u8, body: &[u8]) -> bool
+fn form_known(tag: u8, body: &[u8]) -> bool
     ensures { λ r. ⌜ r ≡ formKnown (recordOf tag (now (body .entry))) ⌝ }
 {
     match tag {
@@ -26,58 +24,106 @@ pub fn form_known(tag: u8, body: &[u8]) -> bool
     }
 }
 
-// Where the fields end. Test 8 asks that the body ends there too.
-pub fn fields_end(tag: u8, body: &[u8]) -> usize
-    ensures { λ r. ⌜ r ≡ entryOf (recordOf tag (now (body .entry))) .end ⌝ }
+// ---- tests 8 to 11 of each kind: the number of the first that fails, or 0
+
+// Capability numbers: any number of them, of any value.
+fn available_test(body: &[u8]) -> u8
+    ensures { λ r. ⌜ r ≡ testsOf 0 0 (now (body .entry)) (mapFields available (availableFields (now (body .entry)))) ⌝ }
 {
-    match records::rank_of(tag) {
-        1 => body.len() / 4 * 4,
-        2 => 12,
-        3 => types::end_of(tag, body, fields::name_end(body, 0)),
-        4 => constants::end_of(tag, body),
-        5 => fields::name_end(body, 0) + 15,
-        _ => fields::name_end(body, 0) + 15,
+    if body.len() / 4 * 4 != body.len() {
+        return 8;
     }
+    0
 }
 
-// Test 9: every name of the record is UTF-8 and holds no zero byte.
-pub fn names_fit(tag: u8, body: &[u8]) -> bool
-    ensures { λ r. ⌜ r ≡ every nameFits (namesOf (entryOf (recordOf tag (now (body .entry))) .value)) ⌝ }
+// A size of 0 is no size.
+fn remap_test(body: &[u8]) -> u8
+    ensures { λ r. ⌜ r ≡ testsOf 0 0 (now (body .entry)) (mapFields remap (remapFields (now (body .entry)))) ⌝ }
 {
-    match records::rank_of(tag) {
-        1 => true,
-        2 => true,
-        3 => fields::name_fits(body, 0) && types::names_fit(tag, body, fields::name_end(body, 0)),
-        4 => true,
-        5 => fields::name_fits(body, 0),
-        _ => fields::name_fits(body, 0),
+    if 12 != body.len() {
+        return 8;
     }
+    if fields::u32_at(body, 8) == 0 {
+        return 10;
+    }
+    0
 }
 
-// Test 10: every field has one of its values.
-pub fn values_fit(tag: u8, body: &[u8]) -> bool
-    ensures { λ r. ⌜ r ≡ valuesFit (entryOf (recordOf tag (now (body .entry))) .value) ⌝ }
+// A type's own name is the first of its names. It names no constant.
+fn type_test(tag: u8, body: &[u8], types: usize) -> u8
+    ensures { λ r. ⌜ r ≡ testsOf types 0 (now (body .entry)) (mapFields (λ i. type (typeEntry (recordOf tag (now (body .entry))) i)) (typeFields tag (now (body .entry)) (nameEnd (now (body .entry)) 0))) ⌝ }
 {
-    match records::rank_of(tag) {
-        1 => true,
-        2 => 0 < fields::u32_at(body, 8),
-        3 => types::values_fit(tag, body, fields::name_end(body, 0)),
-        4 => constants::values_fit(tag, body),
-        5 => globals::values_fit(body, fields::name_end(body, 0)),
-        _ => globals::values_fit(body, fields::name_end(body, 0)),
+    let n = fields::name_end(body, 0);
+    if types::end_of(tag, body, n) != body.len() {
+        return 8;
     }
+    if !fields::name_fits(body, 0) {
+        return 9;
+    }
+    if !types::names_fit(tag, body, n) {
+        return 9;
+    }
+    if !types::values_fit(tag, body, n) {
+        return 10;
+    }
+    if !types::read_already(tag, body, n, types) {
+        return 11;
+    }
+    0
 }
 
-// Test 11: every type and every constant that the record names is among those read so far.
-pub fn read_already(tag: u8, body: &[u8], types: usize, constants: usize) -> bool
-    ensures { λ r. ⌜ r ≡ (below types (typesNamed (entryOf (recordOf tag (now (body .entry))) .value)) && below constants (constantsNamed (entryOf (recordOf tag (now (body .entry))) .value))) ⌝ }
+// A constant has no name.
+fn constant_test(tag: u8, body: &[u8], types: usize, constants: usize) -> u8
+    ensures { λ r. ⌜ r ≡ testsOf types constants (now (body .entry)) (mapFields constant (constantFields tag (now (body .entry)))) ⌝ }
 {
+    if constants::end_of(tag, body) != body.len() {
+        return 8;
+    }
+    if !constants::values_fit(tag, body) {
+        return 10;
+    }
+    if !constants::read_already(tag, body, types, constants) {
+        return 11;
+    }
+    0
+}
+
+// A global has its own name alone.
+fn global_test(body: &[u8], types: usize, constants: usize) -> u8
+    ensures { λ r. ⌜ r ≡ testsOf types constants (now (body .entry)) (mapFields global (globalFields (now (body .entry)) (nameEnd (now (body .entry)) 0))) ⌝ }
+{
+    let n = fields::name_end(body, 0);
+    if n + 15 != body.len() {
+        return 8;
+    }
+    if !fields::name_fits(body, 0) {
+        return 9;
+    }
+    if !globals::values_fit(body, n) {
+        return 10;
+    }
+    if !globals::read_already(body, n, types, constants) {
+        return 11;
+    }
+    0
+}
+
+// ---- and of every kind
+
+// Tests 8 to 11 of a record, where so many types and constants were read, and before them whether a literal's form is known: the
+// number of the first that fails, or 0.
+pub fn fields_test(tag: u8, body: &[u8], types: usize, constants: usize) -> u8
+    ensures { λ r. ⌜ r ≡ fieldsTest types constants (recordOf tag (now (body .entry))) ⌝ }
+{
+    if !form_known(tag, body) {
+        return 10;
+    }
     match records::rank_of(tag) {
-        1 => true,
-        2 => true,
-        3 => types::read_already(tag, body, fields::name_end(body, 0), types),
-        4 => constants::read_already(tag, body, types, constants),
-        5 => globals::read_already(body, fields::name_end(body, 0), types, constants),
-        _ => globals::read_already(body, fields::name_end(body, 0), types, constants),
+        1 => available_test(body),
+        2 => remap_test(body),
+        3 => type_test(tag, body, types),
+        4 => constant_test(tag, body, types, constants),
+        5 => global_test(body, types, constants),
+        _ => global_test(body, types, constants),
     }
 }
