@@ -2,9 +2,8 @@
 -- says which fields its entry is read by, so each arm is the promise of the crate that writes its kind.
 use Prim.Native.Nat.{ℕ, _+_, _≤_, _<_}
 use mathlib.Core.Path.{_≡_, refl, sym, ap, _∙_, subst}
-use mathlib.Core.Bool.{Bool, true}
+use mathlib.Core.Bool.{true}
 use mathlib.Core.List.{List, _∷_, [], map}
-use mathlib.Core.Option.{Option}
 use native.Mathlib.Omega.{arith}
 use borrow.Author.Tests.{ltb-true}
 use lib.Dec.{ltb}
@@ -32,15 +31,6 @@ use Rattle.writer_globals.specs.Records.{globalIn, GlobalTested}
 use Rattle.writer_globals.specs.Globals.{GlobalKept}
 use Rattle.definition.specs.Sheet as Defined
 use Rattle.records.specs.Places.{typesFrom, remapFrom, typeOfRecord as recordType}
-use Rattle.definition.specs.Bytes.{nameEnd}
-use Rattle.definition.specs.Shapes.{shapeOf}
-use Rattle.definition.specs.Unfit.{shapeAvailable}
-use Rattle.entries.specs.declared.types.TypeInner.{TypeInner}
-use Rattle.entries.specs.declared.constants.Expression.{Expression}
-use Rattle.entries.specs.declared.globals.GlobalVariable.{GlobalVariable}
-use Rattle.entries.specs.Types.{TypeTaken, innerOf}
-use Rattle.entries.specs.Constants.{ConstantTaken}
-use Rattle.entries.specs.Globals.{GlobalTaken}
 use Rattle.availability.specs.declared.Available.{Available}
 use Rattle.zeroable.specs.Memo.{Memo}
 use Rattle.sheet_writer.specs.declared.RecordOutcome.{RecordOutcome}
@@ -104,7 +94,7 @@ module _ {s rs ts : List ℕ} {k : Counts} {rest : List ℕ} {i : ℕ} {T S m : 
         let t = passed-told (constantOf r) (is-constant r e) in
         (few-types, (record { whole = t .whole; values = t .values; types = rw (← counted-types) (names-types (ready .seen) r (constantOf r) t); small = body-few rest (ready .small) }, (rank-room 4 e, ready .memo)))
 
-    pub global-asks : tagRank (r .tag) ≡ 5 → (k .types ≤ length ts) × ((k .remaps ≤ length rs) × (GlobalTested (k .types) r × (Room (recordCost l) w T S × Memo us m)))
+    pub global-asks : tagRank (r .tag) ≡ 5 → (k .types ≤ length ts) × ((k .remaps ≤ length rs) × (GlobalTested (k .types) (r .body) × (Room (recordCost l) w T S × Memo us m)))
     global-asks e =
         let t = passed-told (globalOf r) (is-global r e) in
         (few-types, (ready .stored .remaps, (record { whole = t .whole; values = t .values; type = one-below _ (k .types) (rw (← counted-types) (names-types (ready .seen) r (globalOf r) t)) }, (rank-room 5 e, ready .memo))))
@@ -152,11 +142,11 @@ module _ {s rs ts : List ℕ} {k : Counts} {rest : List ℕ} {i : ℕ} {T S m : 
           })
 
       pub global-comes : tagRank (r .tag) ≡ 5 → {c : RecordOutcome} → Memo us m′
-          → ComesTo (TestsUnfit (λ x. globalFits us x (globalIn r)) w T) (λ v. GlobalKept (recordCost l) o us (map (remapFrom s) (take (k .remaps) rs)) (globalIn r) w T S v T′ S′) c
+          → ComesTo (TestsUnfit (λ x. globalFits us x (globalIn (r .body))) w T) (λ v. GlobalKept (recordCost l) o us (map (remapFrom s) (take (k .remaps) rs)) (globalIn (r .body)) w T S v T′ S′) c
           → RecordWritten s rs ts k a rest o w T S c T′ S′ m′
       unfolding fitnessTest
       global-comes e {c = c} memo d = comes c memo (λ n b x h.
-          d .told S x h ∙ ap (λ (vs : List Defined.TypeEntry). unless (globalFits vs x (globalIn r)) 13 0) (sym (b .looked .types))
+          d .told S x h ∙ ap (λ (vs : List Defined.TypeEntry). unless (globalFits vs x (globalIn (r .body))) 13 0) (sym (b .looked .types))
           ∙ sym (ap (λ (f : Fields Entry). fitnessTest n x (f .value)) (is-global r e))) (λ z. record {
             grown = rw e (d .written z .grown);
             held = λ n b x h. subst (Held (c .writer) T′ S′)
@@ -174,22 +164,3 @@ module _ {s rs ts : List ℕ} {k : Counts} {rest : List ℕ} {i : ℕ} {T S m : 
       where
         still : Grown (costAt rest) w w
         still = omega arith
-
--- ---- what was taken from a record by its tag and body
-
-module _ (r : Record) (b : List ℕ) (eb : b ≡ r .body) where
-  module _ (t : ℕ) (et : t ≡ r .tag) where
-    pub type-taken : (i : TypeInner) → TypeTaken t b (nameEnd b 0) i → TypeTaken (r .tag) (r .body) (nameEnd (r .body) 0) i
-    type-taken i h = rw (et, eb) at h
-
-    pub constant-taken : (e : Expression) → ConstantTaken t b e → ConstantTaken (r .tag) (r .body) e
-    constant-taken e h = rw (et, eb) at h
-
-    -- a type's test is of what its fields say
-    pub type-told : (o : Option (List ℕ)) (q : Bool) (i : TypeInner) → TypeTaken t b (nameEnd b 0) i → TypeTested r
-        → ((c : List ℕ) (n : ℕ) → innerOf c n i ≡ Defined.typeFields t c n .value → q ≡ shapeAvailable o (shapeOf (Defined.typeFields t c n .value)))
-        → q ≡ shapeAvailable o (shapeOf (Defined.typeFields (r .tag) (r .body) (nameEnd (r .body) 0) .value))
-    type-told o q i h d f = (rw et at f) (r .body) (nameEnd (r .body) 0) (type-taken i h (d .values))
-
-  pub global-taken : (g : GlobalVariable) → GlobalTaken b g → GlobalTaken (r .body) g
-  global-taken g h = rw eb at h

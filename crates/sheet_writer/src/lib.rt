@@ -7,17 +7,22 @@ use records::Options;
 use sheet::hash;
 use sheet::holding;
 use writer::Writer;
+use writer_constants::expressions::write_constant_expr;
+use writer_constants::fitness::expression_fits;
+use writer_globals::fitness::global_fits;
+use writer_types::write_type_declaration_arena;
 ghost use mathlib.Core.Path.{_≡_};
 ghost use mathlib.Core.List.{List, map};
 ghost use mathlib.Core.Option.{Option};
 ghost use Prim.Native.Nat.{ℕ, _+_, _<_, _≤_};
 ghost use lib.ListN.{length, take};
-ghost use Rattle.definition.specs.Sheet.{recordAt, typeFields, constantFields};
+ghost use Rattle.definition.specs.Sheet.{typeFields, constantFields};
 ghost use Rattle.definition.specs.Shapes.{shapeOf};
 ghost use Rattle.definition.specs.Rules.{declareType};
 ghost use Rattle.definition.specs.Unfit.{shapeAvailable, constantFits, globalFits};
 ghost use Rattle.records.specs.Flags.{optionsFrom};
 ghost use Rattle.records.specs.Places.{typeOfRecord, remapFrom, typesFrom, placesOf, Ample};
+ghost use Rattle.sheet_fields.specs.Fields.{recordOf};
 ghost use Rattle.zeroable.specs.Memo.{Memo};
 ghost use Rattle.entries.specs.Types.{innerOf};
 ghost use Rattle.availability.specs.Flags.{Flagged};
@@ -54,7 +59,7 @@ fn type_fits(available: Available, tag: u8, ty: TypeInner) -> bool
     availability::type_available(available, ty)
 }
 
-// The type of the record at the front of `rest`, which passed the tests before: test 14, then its declaration.
+// A record of a type, of a tag and a body that passed the tests before: test 14, then its declaration.
 fn write_type(
     tables: &mut [u64],
     sections: &mut [u32],
@@ -63,31 +68,21 @@ fn write_type(
     types: &[u32],
     n: usize,
     available: Available,
-    rest: &[u8],
+    tag: u8,
+    body: &[u8],
     debug: bool,
 ) -> RecordOutcome
-    requires { ⌜ (n ≤ length (now types)) × ((n < 65536) × (TypeTested (recordAt (now rest)) × Room (recordCost (length (recordAt (now rest) .body) + 3)) w (now tables) (now sections))) ⌝ }
-    ensures { λ r. ⌜ ComesTo (TestsType available (recordAt (now (rest .entry)))) (λ v. Kept (recordCost (length (recordAt (now (rest .entry)) .body) + 3)) (declareType debug (typesFrom (now (s .entry)) (now (types .entry)) n) (typeOfRecord (recordAt (now (rest .entry))))) w (now (tables .entry)) (now (sections .entry)) v (now (tables .exit)) (now (sections .exit))) r ⌝ }
+    requires { ⌜ (n ≤ length (now types)) × ((n < 65536) × (TypeTested (recordOf tag (now body)) × Room (recordCost (length (now body) + 3)) w (now tables) (now sections))) ⌝ }
+    ensures { λ r. ⌜ ComesTo (TestsType available (recordOf tag (now (body .entry)))) (λ v. Kept (recordCost (length (now (body .entry)) + 3)) (declareType debug (typesFrom (now (s .entry)) (now (types .entry)) n) (typeOfRecord (recordOf tag (now (body .entry))))) w (now (tables .entry)) (now (sections .entry)) v (now (tables .exit)) (now (sections .exit))) r ⌝ }
 {
-    let tag = records::tag_of(rest);
-    let ty = entries::types::inner_of(tag, records::body_of(rest));
+    let ty = entries::types::inner_of(tag, body);
     if !type_fits(available, tag, ty) {
         return RecordOutcome {
             refused: 14,
             writer: w,
         };
     }
-    let v = writer_types::write_type_declaration_arena(
-        tables,
-        sections,
-        w,
-        s,
-        types,
-        n,
-        rest,
-        ty,
-        debug,
-    );
+    let v = write_type_declaration_arena(tables, sections, w, s, types, n, body, ty, debug);
     RecordOutcome {
         refused: 0,
         writer: v,
@@ -103,26 +98,27 @@ fn write_constant(
     s: &[u8],
     types: &[u32],
     n: usize,
-    rest: &[u8],
+    tag: u8,
+    body: &[u8],
 ) -> RecordOutcome
-    requires { ⌜ (n ≤ length (now types)) × (ConstantTested n (recordAt (now rest)) × (Room (recordCost (length (recordAt (now rest) .body) + 3)) w (now tables) (now sections) × Memo (typesFrom (now s) (now types) n) (now memo))) ⌝ }
-    ensures { λ r. ⌜ ComesTo (TestsUnfit (λ x. constantFits (typesFrom (now (s .entry)) (now (types .entry)) n) x (constantFields (recordAt (now (rest .entry)) .tag) (recordAt (now (rest .entry)) .body) .value)) w (now (tables .entry))) (λ v. ConstantWritten (recordCost (length (recordAt (now (rest .entry)) .body) + 3)) (typesFrom (now (s .entry)) (now (types .entry)) n) (constantFields (recordAt (now (rest .entry)) .tag) (recordAt (now (rest .entry)) .body) .value) w (now (tables .entry)) (now (sections .entry)) v (now (tables .exit)) (now (sections .exit))) r × Memo (typesFrom (now (s .entry)) (now (types .entry)) n) (now (memo .exit)) ⌝ }
+    requires { ⌜ (n ≤ length (now types)) × (ConstantTested n (recordOf tag (now body)) × (Room (recordCost (length (now body) + 3)) w (now tables) (now sections) × Memo (typesFrom (now s) (now types) n) (now memo))) ⌝ }
+    ensures { λ r. ⌜ ComesTo (TestsUnfit (λ x. constantFits (typesFrom (now (s .entry)) (now (types .entry)) n) x (constantFields tag (now (body .entry)) .value)) w (now (tables .entry))) (λ v. ConstantWritten (recordCost (length (now (body .entry)) + 3)) (typesFrom (now (s .entry)) (now (types .entry)) n) (constantFields tag (now (body .entry)) .value) w (now (tables .entry)) (now (sections .entry)) v (now (tables .exit)) (now (sections .exit))) r × Memo (typesFrom (now (s .entry)) (now (types .entry)) n) (now (memo .exit)) ⌝ }
 {
-    let expr = entries::constants::expression_of(records::tag_of(rest), records::body_of(rest));
-    if !writer_constants::constant_fits(tables, w, s, types, n, memo, rest, expr) {
+    let expr = entries::constants::expression_of(tag, body);
+    if !expression_fits(tables, w, s, types, n, memo, body, expr) {
         return RecordOutcome {
             refused: 13,
             writer: w,
         };
     }
-    let v = writer_constants::write_constant(tables, sections, w, s, types, n, rest, expr);
+    let v = write_constant_expr(tables, sections, w, s, types, n, body, expr);
     RecordOutcome {
         refused: 0,
         writer: v,
     }
 }
 
-// The same of a global.
+// The same of a global, which has one tag.
 fn write_global(
     tables: &mut [u64],
     sections: &mut [u32],
@@ -132,14 +128,14 @@ fn write_global(
     remaps: &[u32],
     types: &[u32],
     k: Counts,
-    rest: &[u8],
+    body: &[u8],
     options: Options,
 ) -> RecordOutcome
-    requires { ⌜ (k .types ≤ length (now types)) × ((k .remaps ≤ length (now remaps)) × (GlobalTested (k .types) (recordAt (now rest)) × (Room (recordCost (length (recordAt (now rest) .body) + 3)) w (now tables) (now sections) × Memo (typesFrom (now s) (now types) (k .types)) (now memo)))) ⌝ }
-    ensures { λ r. ⌜ ComesTo (TestsUnfit (λ x. globalFits (typesFrom (now (s .entry)) (now (types .entry)) (k .types)) x (globalIn (recordAt (now (rest .entry))))) w (now (tables .entry))) (λ v. GlobalKept (recordCost (length (recordAt (now (rest .entry)) .body) + 3)) (optionsFrom options) (typesFrom (now (s .entry)) (now (types .entry)) (k .types)) (map (remapFrom (now (s .entry))) (take (k .remaps) (now (remaps .entry)))) (globalIn (recordAt (now (rest .entry)))) w (now (tables .entry)) (now (sections .entry)) v (now (tables .exit)) (now (sections .exit))) r × Memo (typesFrom (now (s .entry)) (now (types .entry)) (k .types)) (now (memo .exit)) ⌝ }
+    requires { ⌜ (k .types ≤ length (now types)) × ((k .remaps ≤ length (now remaps)) × (GlobalTested (k .types) (now body) × (Room (recordCost (length (now body) + 3)) w (now tables) (now sections) × Memo (typesFrom (now s) (now types) (k .types)) (now memo)))) ⌝ }
+    ensures { λ r. ⌜ ComesTo (TestsUnfit (λ x. globalFits (typesFrom (now (s .entry)) (now (types .entry)) (k .types)) x (globalIn (now (body .entry)))) w (now (tables .entry))) (λ v. GlobalKept (recordCost (length (now (body .entry)) + 3)) (optionsFrom options) (typesFrom (now (s .entry)) (now (types .entry)) (k .types)) (map (remapFrom (now (s .entry))) (take (k .remaps) (now (remaps .entry)))) (globalIn (now (body .entry))) w (now (tables .entry)) (now (sections .entry)) v (now (tables .exit)) (now (sections .exit))) r × Memo (typesFrom (now (s .entry)) (now (types .entry)) (k .types)) (now (memo .exit)) ⌝ }
 {
-    let global = entries::globals::global_of(records::body_of(rest));
-    if !writer_globals::fitness::global_fits(tables, w, s, types, k.types, memo, global) {
+    let global = entries::globals::global_of(body);
+    if !global_fits(tables, w, s, types, k.types, memo, global) {
         return RecordOutcome {
             refused: 13,
             writer: w,
@@ -153,7 +149,7 @@ fn write_global(
         types,
         remaps,
         k,
-        rest,
+        body,
         global,
         options,
     );
@@ -189,7 +185,9 @@ fn write_record(
             writer: w,
         };
     }
-    match records::rank_of(records::tag_of(rest)) {
+    let tag = records::tag_of(rest);
+    let body = records::body_of(rest);
+    match records::rank_of(tag) {
         3 => write_type(
             tables,
             sections,
@@ -198,10 +196,11 @@ fn write_record(
             types,
             k.types,
             available,
-            rest,
+            tag,
+            body,
             options.debug,
         ),
-        4 => write_constant(tables, sections, memo, w, s, types, k.types, rest),
+        4 => write_constant(tables, sections, memo, w, s, types, k.types, tag, body),
         5 => write_global(
             tables,
             sections,
@@ -211,7 +210,7 @@ fn write_record(
             remaps,
             types,
             k,
-            rest,
+            body,
             options,
         ),
         _ => RecordOutcome {

@@ -1,7 +1,7 @@
 -- A constant's record has the bytes for what the constant costs, and for no more parts than an instruction can have. Each tag
 -- is looked at once: the body is as long as its fields, and a Splat's size is at most 4.
 use Prim.Native.Nat.{ℕ, _+_, _≤_, _<_}
-use mathlib.Core.Path.{_≡_, ap, _∙_}
+use mathlib.Core.Path.{_≡_}
 use mathlib.Core.Bool.{true}
 use mathlib.Core.List.{List}
 use native.Mathlib.Omega.{arith}
@@ -63,5 +63,5 @@ module _ (n : ℕ) (r : Record) (t : ConstantTested n r) where
   written ts w T S v T′ S′ h = record { grown = omega (arith, cheap .0, h .grown); held = h .held }
 
   -- what was taken for the constant is the constant
-  pub is-taken : (b : List ℕ) → b ≡ r .body → (e : Read.Expression) → ConstantTaken (r .tag) (r .body) e → expressionOf b e ≡ fieldsOf r .value
-  is-taken b eb e h = ap (λ (x : List ℕ). expressionOf x e) eb ∙ h (t .values)
+  pub is-taken : (e : Read.Expression) → ConstantTaken (r .tag) (r .body) e → expressionOf (r .body) e ≡ fieldsOf r .value
+  is-taken e h = h (t .values)

@@ -10,7 +10,7 @@ use lib.Dec.{eqb}
 use lib.ListN.{length}
 use Rattle.definition.specs.Bytes.{nameAt, nameEnd}
 use Rattle.definition.specs.Instructions.{name, variable}
-use Rattle.definition.specs.Sheet.{Record, TypeEntry, Remap, Global, Options, globalFields}
+use Rattle.definition.specs.Sheet.{TypeEntry, Remap, Global, Options, globalFields}
 use Rattle.definition.specs.Shapes.{storageClass}
 use Rattle.definition.specs.Tests.{Seen}
 use Rattle.definition.specs.State.{State, Got, takeId, declareAlone}
@@ -133,26 +133,23 @@ declared o ts rs b g {w = w} {T = T} {S = S} {t = t} p₀ q₁ {a = a} ea q₂ q
           (q₇ .held T₆ (x .state) (i .held));
     }
 
--- ---- of a record
+-- ---- of a record's body
 
-module _ {n : ℕ} (r : Record) (tested : GlobalTested n r) {b : List ℕ} (eb : b ≡ r .body) where
+module _ {n : ℕ} (b : List ℕ) (tested : GlobalTested n b) where
   -- what was taken for its global is its global
-  pub as-read : (g : GlobalVariable) → Read (r .body) g → globalOf b g ≡ globalIn r
-  as-read g t = ap (λ (x : List ℕ). globalOf x g) eb ∙ t (tested .values)
+  pub as-read : (g : GlobalVariable) → Read b g → globalOf b g ≡ globalIn b
+  as-read g t = t (tested .values)
 
-  -- three bytes stand before its body, and fifteen behind its name
-  price : AtMost (globalCost (nameEnd b 0)) (recordCost (length (r .body) + 3))
+  -- three bytes stand before it, and fifteen behind its name
+  price : AtMost (globalCost (nameEnd b 0)) (recordCost (length b + 3))
   unfolding globalFields
-  price =
-      let e : nameEnd b 0 ≡ nameEnd (r .body) 0 = ap (λ (x : List ℕ). nameEnd x 0) eb in
-      let w : nameEnd (r .body) 0 + 15 ≡ length (r .body) = tested .whole in
-      omega (arith, e, w)
+  price = let w : nameEnd b 0 + 15 ≡ length b = tested .whole in omega (arith, w)
 
-  pub record-room : {w : Writer} {T S : List ℕ} → Room (recordCost (length (r .body) + 3)) w T S → Room (globalCost (nameEnd b 0)) w T S
+  pub record-room : {w : Writer} {T S : List ℕ} → Room (recordCost (length b + 3)) w T S → Room (globalCost (nameEnd b 0)) w T S
   record-room room = let m = price in record { rows = omega (arith, m, room .rows); words = omega (arith, m, room .words) }
 
-  pub record-kept : {o : Options} {ts : List TypeEntry} {rs : List Remap} {g : Global} → g ≡ globalIn r → {w v : Writer} {T S T′ S′ : List ℕ}
-      → GlobalKept (globalCost (nameEnd b 0)) o ts rs g w T S v T′ S′ → GlobalKept (recordCost (length (r .body) + 3)) o ts rs (globalIn r) w T S v T′ S′
+  pub record-kept : {o : Options} {ts : List TypeEntry} {rs : List Remap} {g : Global} → g ≡ globalIn b → {w v : Writer} {T S T′ S′ : List ℕ}
+      → GlobalKept (globalCost (nameEnd b 0)) o ts rs g w T S v T′ S′ → GlobalKept (recordCost (length b + 3)) o ts rs (globalIn b) w T S v T′ S′
   record-kept {o = o} e {v = v} {T′ = T′} {S′ = S′} k = record {
     grown = grown-within price (k .grown);
     tail = k .tail;

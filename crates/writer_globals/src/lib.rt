@@ -27,22 +27,20 @@ use writer::sections;
 ghost use mathlib.Core.Path.{_≡_};
 ghost use mathlib.Core.Bool.{_&&_, _||_};
 ghost use mathlib.Core.List.{List, map};
-ghost use Prim.Native.Nat.{ℕ, _+_, _≤_};
+ghost use Prim.Native.Nat.{ℕ, _≤_};
 ghost use lib.Dec.{eqb};
 ghost use lib.ListN.{length, take};
 ghost use Rattle.definition.specs.Bytes.{nameEnd};
-ghost use Rattle.definition.specs.Sheet.{recordAt, privateSpace, workGroupSpace};
+ghost use Rattle.definition.specs.Sheet.{privateSpace, workGroupSpace};
 ghost use Rattle.definition.specs.Rules.{initFor};
 ghost use Rattle.kinds.specs.Numbers.{spaceNumber};
 ghost use Rattle.records.specs.Flags.{optionsFrom};
 ghost use Rattle.records.specs.Places.{remapFrom, typesFrom};
-ghost use Rattle.entries.specs.Globals.{initConstant, GlobalTaken};
-ghost use Rattle.writer.specs.Cost.{recordCost};
+ghost use Rattle.entries.specs.Globals.{initConstant, globalOf};
 ghost use Rattle.writer.specs.Held.{Room};
 ghost use Rattle.finding.specs.Costs.{nullCost};
 ghost use Rattle.writer_globals.specs.Costs.{globalCost};
 ghost use Rattle.writer_globals.specs.Globals.{Initialised, Planned, GlobalKept, WrittenBy};
-ghost use Rattle.writer_globals.specs.Records.{globalIn, GlobalTested};
 
 // The id of a global's init, if it has one.
 pub struct TakenInit {
@@ -175,8 +173,7 @@ fn write_global_variable(
     sections::variable(sections, z.writer, p.id, id, class, initializer)
 }
 
-// The global of the record at the front of `rest`, taken as `global`, given what was read before it: what test 10 lets through is
-// declared as it was read.
+// The global of a record whose body is `body`, given what was read before it.
 pub fn write_global(
     tables: &mut [u64],
     sections: &mut [u32],
@@ -185,14 +182,13 @@ pub fn write_global(
     types: &[u32],
     remaps: &[u32],
     counts: Counts,
-    rest: &[u8],
+    body: &[u8],
     global: GlobalVariable,
     options: Options,
 ) -> Writer
-    requires { ⌜ (counts .types ≤ length (now types)) × (counts .remaps ≤ length (now remaps)) × GlobalTested (counts .types) (recordAt (now rest)) × GlobalTaken (recordAt (now rest) .body) global × Room (recordCost (length (recordAt (now rest) .body) + 3)) w (now tables) (now sections) ⌝ }
-    ensures { λ r. ⌜ GlobalKept (recordCost (length (recordAt (now (rest .entry)) .body) + 3)) (optionsFrom options) (typesFrom (now (sheet .entry)) (now (types .entry)) (counts .types)) (map (remapFrom (now (sheet .entry))) (take (counts .remaps) (now (remaps .entry)))) (globalIn (recordAt (now (rest .entry)))) w (now (tables .entry)) (now (sections .entry)) r (now (tables .exit)) (now (sections .exit)) ⌝ }
+    requires { ⌜ (counts .types ≤ length (now types)) × (counts .remaps ≤ length (now remaps)) × Room (globalCost (nameEnd (now body) 0)) w (now tables) (now sections) ⌝ }
+    ensures { λ r. ⌜ GlobalKept (globalCost (nameEnd (now (body .entry)) 0)) (optionsFrom options) (typesFrom (now (sheet .entry)) (now (types .entry)) (counts .types)) (map (remapFrom (now (sheet .entry))) (take (counts .remaps) (now (remaps .entry)))) (globalOf (now (body .entry)) global) w (now (tables .entry)) (now (sections .entry)) r (now (tables .exit)) (now (sections .exit)) ⌝ }
 {
-    let b = records::body_of(rest);
     let plan = plan_of(
         sheet,
         types,
@@ -202,5 +198,5 @@ pub fn write_global(
         global,
         options.zeroing,
     );
-    write_global_variable(tables, sections, w, b, global, plan, options.debug)
+    write_global_variable(tables, sections, w, body, global, plan, options.debug)
 }

@@ -8,16 +8,14 @@ use mathlib.Core.List.{List}
 use mathlib.Core.Option.{Option, none}
 use native.Mathlib.Omega.{arith}
 use lib.ListN.{length}
-use Rattle.definition.specs.Bytes.{nameAt, nameEnd}
+use Rattle.definition.specs.Bytes.{nameAt}
 use Rattle.definition.specs.Instructions.{name}
-use Rattle.definition.specs.Sheet.{Record, TypeInner, TypeEntry, membersAt}
+use Rattle.definition.specs.Sheet.{TypeInner, TypeEntry, membersAt}
 use Rattle.definition.specs.Shapes.{Shape, shapeOf, entry, shape}
 use Rattle.definition.specs.State.{State, takeId, enter}
 use Rattle.definition.specs.Finding.{find}
 use Rattle.definition.specs.Rules.{declareAggregate, declareInner, declareType, declareStruct, labelIf}
-use Rattle.records.specs.Places.{typeOfRecord}
 use Rattle.entries.specs.declared.types.TypeInner as Program
-use Rattle.entries.specs.Types.{TypeTaken}
 use Rattle.lookup.specs.declared.LocalType.{LocalType}
 use Rattle.lookup.specs.Local.{localShape as localShape}
 use Rattle.locals.specs.declared.MaybeLocal.{MaybeLocal}
@@ -34,7 +32,7 @@ use Rattle.finding.proofs.Prices.{AtMost}
 use Rattle.finding.proofs.Ways.{taken}
 use Rattle.writer_types.specs.Inner.{innerIn, innerDeclared}
 use Rattle.writer_types.specs.Costs.{nameLength, structCost, aggregateCost, shapedCost, innerCost}
-use Rattle.writer_types.specs.Tested.{TypeTested}
+use Rattle.writer_types.specs.Tested.{TypeRead, EntryOf}
 use Rattle.writer_types.proofs.Bytes.{entryCost, type-bytes}
 
 -- ---- an aggregate
@@ -82,33 +80,32 @@ module _ (i : TypeInner) (m : MaybeLocal) (em : madeOf m ≡ shapeOf i) (w : Wri
               record { named = n; held = subst (Held v T′ S′) (λ j. declareAggregate debug ts i (n j) (takeId s)) (d .held (takeId s) (p .held T S s h)) };
         })
 
--- ---- the record that was read
+-- ---- the body that was read
 
-module _ (r : Record) (h : TypeTested r) (b : List ℕ) (eb : b ≡ r .body) (t : Program.TypeInner) (told : TypeTaken (r .tag) (r .body) (nameEnd (r .body) 0) t) where
+module _ (b : List ℕ) (t : Program.TypeInner) (read : TypeRead b t) where
   abbrev i : TypeInner
   i = innerIn b t
 
-  inner-is : i ≡ typeOfRecord r .inner
-  inner-is = ap (λ (x : List ℕ). innerIn x t) eb ∙ told (h .values)
-
-  pub enough : AtMost (entryCost i (nameLength (nameAt b 0))) (recordCost (length (r .body) + 3))
-  enough = rw (inner-is, eb) (type-bytes (r .tag) (r .body) (h .whole))
+  pub enough : AtMost (entryCost i (nameLength (nameAt b 0))) (recordCost (length b + 3))
+  enough = rw (read .taken (read .tested .values)) (type-bytes (read .tag) b (read .tested .whole))
 
   pub whole : (debug : Bool) (ts : List TypeEntry) (n : ℕ) → n ≡ length ts → (w : Writer) (T S : List ℕ) (g : Taken) (T₁ S₁ : List ℕ)
       → GotBy (innerCost i) (innerDeclared debug ts i) w T S g T₁ S₁
       → (key : ℕ) → key ≡ packedKey (entry n) → Small (entry n) → (v : Writer) (T₂ : List ℕ) → EnteredType key (g .id) (g .writer) T₁ v T₂
       → (u : Writer) (S₂ : List ℕ) → Added (naming (nameLength (nameAt b 0) + 3)) (labelIf debug (name (g .id)) (nameAt b 0)) v S₁ u S₂
-      → Kept (recordCost (length (r .body) + 3)) (declareType debug ts (typeOfRecord r)) w T S u T₂ S₂
+      → (x : TypeEntry) → EntryOf b t x → Kept (recordCost (length b + 3)) (declareType debug ts x) w T S u T₂ S₂
   unfolding declareType
-  whole debug ts n en w T S g T₁ S₁ p key ek sm v T₂ q u S₂ a =
+  whole debug ts n en w T S g T₁ S₁ p key ek sm v T₂ q u S₂ a x e =
       record {
         grown = omega (arith, p .grown, q .grown, a .grown, enough);
         tail = record { parts = omega (arith, p .tail, q .tail, a .grown); ids = λ j l. q .tail .ids j (omega (arith, p .grown)) ∙ p .tail .ids j l };
         held = λ s h.
-            let x = p .gives s h in
-            let y : State = innerDeclared debug ts i s .state in
+            let y = p .gives s h in
+            let z : State = innerDeclared debug ts i s .state in
+            let en′ = sym (e .name) in
+            let ei′ = sym (e .inner) in
             subst (Held u T₂ S₂)
-            ((λ j. labelIf debug (name (x .named j)) (nameAt (eb j) 0) (enter (entry (en j)) (x .named j) y))
-            ∙ ap (λ (k : TypeInner). let o = innerDeclared debug ts k s in labelIf debug (name (o .id)) (nameAt (r .body) 0) (enter (entry (length ts)) (o .id) (o .state))) inner-is)
-            (a .held T₂ _ (q .held (entry n) sm ek S₁ y (x .held)));
+            ((λ j. labelIf debug (name (y .named j)) (en′ j) (enter (entry (en j)) (y .named j) z))
+            ∙ (λ j. let o = innerDeclared debug ts (ei′ j) s in labelIf debug (name (o .id)) (x .name) (enter (entry (length ts)) (o .id) (o .state))))
+            (a .held T₂ _ (q .held (entry n) sm ek S₁ z (y .held)));
       }

@@ -11,17 +11,15 @@ use writer::Taken;
 use writer::Writer;
 ghost use Prim.Native.Nat.{_+_, _≤_, _<_};
 ghost use lib.ListN.{length};
-ghost use Rattle.definition.specs.Bytes.{nameEnd};
-ghost use Rattle.definition.specs.Sheet.{recordAt};
+ghost use Rattle.definition.specs.Sheet.{TypeEntry};
 ghost use Rattle.definition.specs.Rules.{declareAggregate, declareType};
-ghost use Rattle.records.specs.Places.{typeOfRecord, typesFrom};
-ghost use Rattle.entries.specs.Types.{TypeTaken};
+ghost use Rattle.records.specs.Places.{typesFrom};
 ghost use Rattle.writer.specs.Cost.{recordCost};
 ghost use Rattle.writer.specs.Held.{Room};
 ghost use Rattle.writer.specs.Steps.{Kept, GotBy};
 ghost use Rattle.writer_types.specs.Inner.{innerIn, innerDeclared};
 ghost use Rattle.writer_types.specs.Costs.{aggregateCost, innerCost};
-ghost use Rattle.writer_types.specs.Tested.{TypeTested};
+ghost use Rattle.writer_types.specs.Tested.{TypeRead, EntryOf};
 
 // What an aggregate of body b is, under its id; the others are shapes.
 fn write_aggregate(
@@ -126,8 +124,8 @@ fn declare_inner(
     }
 }
 
-// The type of the record at the front of `rest`, which passed its tests and was taken as `ty`; the n types before it stand at their
-// places. Its own key comes behind all that it is made of, so that nothing in it can name it.
+// The type `ty` of a record that passed its tests, whose body is `body`; the n types before it stand at their places. Its own key
+// comes behind all that it is made of, so that nothing in it can name it.
 pub fn write_type_declaration_arena(
     tables: &mut [u64],
     sections: &mut [u32],
@@ -135,16 +133,15 @@ pub fn write_type_declaration_arena(
     sheet: &[u8],
     types: &[u32],
     ntypes: usize,
-    rest: &[u8],
+    body: &[u8],
     ty: TypeInner,
     debug: bool,
 ) -> Writer
-    requires { ⌜ (ntypes ≤ length (now types)) × ((ntypes < 65536) × (TypeTested (recordAt (now rest)) × (TypeTaken (recordAt (now rest) .tag) (recordAt (now rest) .body) (nameEnd (recordAt (now rest) .body) 0) ty × Room (recordCost (length (recordAt (now rest) .body) + 3)) w (now tables) (now sections)))) ⌝ }
-    ensures { λ r. ⌜ Kept (recordCost (length (recordAt (now (rest .entry)) .body) + 3)) (declareType debug (typesFrom (now (sheet .entry)) (now (types .entry)) ntypes) (typeOfRecord (recordAt (now (rest .entry))))) w (now (tables .entry)) (now (sections .entry)) r (now (tables .exit)) (now (sections .exit)) ⌝ }
+    requires { ⌜ (ntypes ≤ length (now types)) × ((ntypes < 65536) × (TypeRead (now body) ty × Room (recordCost (length (now body) + 3)) w (now tables) (now sections))) ⌝ }
+    ensures { λ r. ⌜ ((x : TypeEntry) → EntryOf (now (body .entry)) ty x → Kept (recordCost (length (now (body .entry)) + 3)) (declareType debug (typesFrom (now (sheet .entry)) (now (types .entry)) ntypes) x) w (now (tables .entry)) (now (sections .entry)) r (now (tables .exit)) (now (sections .exit))) ⌝ }
 {
-    let b = records::body_of(rest);
-    let g = declare_inner(tables, sections, w, sheet, types, ntypes, b, debug, ty);
+    let g = declare_inner(tables, sections, w, sheet, types, ntypes, body, debug, ty);
     let k = lookup::key(LookupType::Handle(ntypes as u16));
     let v = writer::enter_type(tables, g.writer, k, g.id);
-    names::name_type(sections, v, b, debug, g.id)
+    names::name_type(sections, v, body, debug, g.id)
 }
