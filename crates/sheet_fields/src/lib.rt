@@ -10,19 +10,10 @@ mod values;
 
 ghost use mathlib.Core.Path.{_≡_};
 ghost use Rattle.definition.specs.Bytes.{nameEnd};
+ghost use Rattle.definition.specs.Choice.{unless};
 ghost use Rattle.definition.specs.Sheet.{mapFields, available, availableFields, remap, remapFields, type, typeEntry, typeFields, constant, constantFields, global, globalFields};
 ghost use Rattle.definition.specs.Tests.{formKnown};
 ghost use Rattle.sheet_fields.specs.Fields.{recordOf, testsOf, fieldsTest};
-
-// The part of test 10 that comes before test 8: a literal's form is known.
-fn form_known(tag: u8, body: &[u8]) -> bool
-    ensures { λ r. ⌜ r ≡ formKnown (recordOf tag (now (body .entry))) ⌝ }
-{
-    match tag {
-        64 => fields::u8_at(body, 0) <= 4,
-        _ => true,
-    }
-}
 
 // ---- tests 8 to 11 of each kind: the number of the first that fails, or 0
 
@@ -72,10 +63,23 @@ fn type_test(tag: u8, body: &[u8], types: usize) -> u8
     0
 }
 
-// A constant has no name.
-fn constant_test(tag: u8, body: &[u8], types: usize, constants: usize) -> u8
-    ensures { λ r. ⌜ r ≡ testsOf types constants (now (body .entry)) (mapFields constant (constantFields tag (now (body .entry)))) ⌝ }
+// The part of test 10 that comes before test 8: a literal's form is known.
+fn form_known(tag: u8, body: &[u8]) -> bool
+    ensures { λ r. ⌜ r ≡ formKnown (recordOf tag (now (body .entry))) ⌝ }
 {
+    match tag {
+        64 => fields::u8_at(body, 0) <= 4,
+        _ => true,
+    }
+}
+
+// A constant has no name. Where it is a literal, its form comes before all else.
+fn constant_test(tag: u8, body: &[u8], types: usize, constants: usize) -> u8
+    ensures { λ r. ⌜ r ≡ unless (formKnown (recordOf tag (now (body .entry)))) 10 (testsOf types constants (now (body .entry)) (mapFields constant (constantFields tag (now (body .entry))))) ⌝ }
+{
+    if !form_known(tag, body) {
+        return 10;
+    }
     if constants::end_of(tag, body) != body.len() {
         return 8;
     }
@@ -110,14 +114,11 @@ fn global_test(body: &[u8], types: usize, constants: usize) -> u8
 
 // ---- and of every kind
 
-// Tests 8 to 11 of a record, where so many types and constants were read, and before them whether a literal's form is known: the
+// Tests 8 to 11 of a record, where so many types and constants were read, and of a literal before them whether its form is known: the
 // number of the first that fails, or 0.
 pub fn fields_test(tag: u8, body: &[u8], types: usize, constants: usize) -> u8
     ensures { λ r. ⌜ r ≡ fieldsTest types constants (recordOf tag (now (body .entry))) ⌝ }
 {
-    if !form_known(tag, body) {
-        return 10;
-    }
     match records::rank_of(tag) {
         1 => available_test(body),
         2 => remap_test(body),

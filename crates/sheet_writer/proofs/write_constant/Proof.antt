@@ -51,8 +51,7 @@ returns-2 c =
     let x = c .before .before .before .before .write-constant-expr in
     let ts = typesFrom (a .s .now) (a .types .now) (a .n) in
     let q = is-taken (a .n) r (c .before .before .before .before .before .before .before .before .before .before .before .before .before .before .before .before .before .before .before .before .pre .1 .0) (c .before .before .before .before .before .before .before .before .before .before .before .before .before .expression-of .result) (c .before .before .before .before .before .before .before .before .before .before .before .before .before .expression-of .ensures) in
-    let t = subst (λ (y : Expression). TestsConstant ts y (a .w) (a .tables .now) (f .result)) q (f .ensures .0) in
-    (
+    let t = subst (λ (y : Expression). TestsConstant ts y (a .w) (a .tables .now) (f .result)) q (f .ensures .0) in (
       record {
         told = λ S y h. go _ _ 13 0 0 (t S y h) (c .before .before .before .before .before .before .before .if1 .left) refl;
         written = λ z.
