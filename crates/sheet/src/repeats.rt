@@ -4,6 +4,7 @@ use crate::bodies::same_up_to;
 use records::Counts;
 use records::TYPES_MOST;
 ghost use mathlib.Core.Path.{_≡_};
+ghost use mathlib.Core.Bool.{false};
 ghost use mathlib.Core.List.{map};
 ghost use Prim.Native.Nat.{_+_, _≤_, _<_};
 ghost use lib.ListN.{length, take};
@@ -39,26 +40,32 @@ fn member_end(b: &[u8], p: usize) -> usize
     if end < b.len() { end } else { b.len() }
 }
 
-// The first of the types from i to n whose hash is h, or n: four are looked at a turn.
+// Whether one of the eight types from j on has the hash h. All eight are compared before there is a choice, which the compiler makes
+// into few instructions.
+fn one_alike(types: &[u32], j: usize, h: u32) -> bool
+    requires { ⌜ typesMost + j + 8 ≤ length (now types) ⌝ }
+    ensures { λ r. ⌜ (r ≡ false → Unlike (now (types .entry)) h j (j + 8)) ⌝ }
+{
+    let p = TYPES_MOST + j;
+    let a = (types[p] == h) | (types[p + 1] == h);
+    let b = (types[p + 2] == h) | (types[p + 3] == h);
+    let c = (types[p + 4] == h) | (types[p + 5] == h);
+    let d = (types[p + 6] == h) | (types[p + 7] == h);
+    (a | b) | (c | d)
+}
+
+// A type from i to n, or n: none before it has the hash h. Eight are passed over a turn, where none of them has it, and one for
+// the rest.
 fn next_alike(types: &[u32], i: usize, n: usize, h: u32) -> usize
     requires { ⌜ (i ≤ n) × (typesMost + n ≤ length (now types)) ⌝ }
     ensures { λ r. ⌜ (i ≤ r) × ((r ≤ n) × Unlike (now (types .entry)) h i r) ⌝ }
 {
     let mut j = i;
-    while 4 <= n - j {
-        if types[TYPES_MOST + j] == h {
+    'eights: while 8 <= n - j {
+        if one_alike(types, j, h) {
             return j;
         }
-        if types[TYPES_MOST + j + 1] == h {
-            return j + 1;
-        }
-        if types[TYPES_MOST + j + 2] == h {
-            return j + 2;
-        }
-        if types[TYPES_MOST + j + 3] == h {
-            return j + 3;
-        }
-        j += 4;
+        j += 8;
     }
     while j < n {
         if types[TYPES_MOST + j] == h {
