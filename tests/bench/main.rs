@@ -28,10 +28,8 @@ const AIM: f64 = 0.4;
 /// full one. On a slower machine the limit grows with the Rust's own time.
 const MOST: f64 = 1_000.0;
 const USUAL: f64 = 250.0;
-/// Of each side of a sheet, in turn, in each pass.
-const ROUNDS: usize = 30;
-/// Over a list of sheets: a machine that is slow for a moment is seldom so at one sheet twice.
-const PASSES: usize = 2;
+/// Of each side of a sheet, in turn.
+const ROUNDS: usize = 60;
 /// What a round of one side takes, in seconds.
 const ROUND: f64 = 0.000_5;
 
@@ -72,27 +70,6 @@ impl Measured {
     fn ratio(&self) -> f64 {
         self.compiled / self.rust
     }
-
-    fn least(self, other: Measured) -> Measured {
-        Measured {
-            compiled: self.compiled.min(other.compiled),
-            rust: self.rust.min(other.rust),
-            writer: self.writer.min(other.writer),
-        }
-    }
-}
-
-/// What is measured of each of a list of things, and the least of that over the passes.
-fn in_passes<S, M>(list: &[S], mut measure: impl FnMut(&S) -> M, least: impl Fn(M, M) -> M) -> Vec<M> {
-    let mut all: Vec<M> = list.iter().map(&mut measure).collect();
-    for _ in 1..PASSES {
-        all = all.into_iter().zip(list).map(|(m, s)| least(m, measure(s))).collect();
-    }
-    all
-}
-
-fn measure_all<S: AsRef<str>>(sheets: &[(S, Vec<u8>)], words: &mut [u32]) -> Vec<Measured> {
-    in_passes(sheets, |(what, sheet)| measure(what.as_ref(), sheet, words), Measured::least)
 }
 
 /// Measures an accepted sheet, after a look whether both give the same words.
@@ -118,15 +95,6 @@ fn measure(what: &str, sheet: &[u8], words: &mut [u32]) -> Measured {
         },
     ]);
     Measured { compiled: best[0], rust: best[1], writer: best[2] }
-}
-
-/// Measures a refused sheet, after a look whether it is refused as it should be.
-fn measure_refused(what: &str, sheet: &[u8], due: u64, words: &mut [u32]) -> f64 {
-    let answer = declare(sheet, words);
-    assert!(answer == due, "Declare answers {answer:#x}, not {due}: {what}");
-    least(&mut [&mut || {
-        black_box(declare(black_box(sheet), words));
-    }])[0]
 }
 
 fn heading() {
@@ -166,8 +134,7 @@ fn main() {
     let length = sheets::full_length();
 
     println!(
-        "microseconds a call, the least of {} rounds; buffers are not cleared between calls",
-        PASSES * ROUNDS
+        "microseconds a call, the least of {ROUNDS} rounds; buffers are not cleared between calls"
     );
     println!("\nthe required three");
     heading();
@@ -178,7 +145,8 @@ fn main() {
     ];
     let mut ratios = Vec::new();
     let mut most = MOST; // by the last of the three, the full one
-    for ((what, sheet), m) in three.iter().zip(measure_all(&three, words)) {
+    for (what, sheet) in &three {
+        let m = measure(what, sheet, words);
         row(sheet, count(sheet, words), &m, what);
         ratios.push((m.ratio(), *what));
         most = MOST * (m.rust / USUAL).max(1.0);
@@ -186,19 +154,19 @@ fn main() {
 
     println!("\ngrowth: one mix");
     heading();
-    let mixes = [1, 2, 3, 4, 8, 16]
-        .map(|part| ("the mix", sheets::mix(16 * part, 16 * part, 4 * part, length)));
-    for ((_, sheet), m) in mixes.iter().zip(measure_all(&mixes, words)) {
+    for part in [1, 2, 3, 4, 8, 16] {
+        let sheet = sheets::mix(16 * part, 16 * part, 4 * part, length);
+        let m = measure("the mix", &sheet, words);
         let each = format!("{:.2} us a KB", m.compiled * 1024.0 / sheet.len() as f64);
-        row(sheet, count(sheet, words), &m, &each);
+        row(&sheet, count(&sheet, words), &m, &each);
     }
 
     println!("\nsheets that could take long");
     heading();
     let mut worst_ratio: (f64, &str) = (0.0, "");
-    let worst = sheets::worst();
-    for (&(what, ref sheet), m) in worst.iter().zip(measure_all(&worst, words)) {
-        row(sheet, count(sheet, words), &m, what);
+    for (what, sheet) in sheets::worst() {
+        let m = measure(what, &sheet, words);
+        row(&sheet, count(&sheet, words), &m, what);
         if m.compiled > slowest.0 {
             slowest = (m.compiled, what);
         }
@@ -207,9 +175,12 @@ fn main() {
         }
     }
     println!("\nrefused sheets that could take long; the Rust tests nothing");
-    let refused = sheets::refused();
-    let times = in_passes(&refused, |(what, sheet, due)| measure_refused(what, sheet, *due, words), f64::min);
-    for (&(what, ref sheet, due), best) in refused.iter().zip(times) {
+    for (what, sheet, due) in sheets::refused() {
+        let answer = declare(&sheet, words);
+        assert!(answer == due, "Declare answers {answer:#x}, not {due}: {what}");
+        let best = least(&mut [&mut || {
+            black_box(declare(black_box(&sheet), words));
+        }])[0];
         println!("{:7} {:>7} {best:10.2}   {what}", sheet.len(), format!("no {due}"));
         if best > slowest.0 {
             slowest = (best, what);
