@@ -282,6 +282,50 @@ SAMPLES["every"] = (
     ),
 )
 
+# Paper 1: half floats, with which a card filters label pictures; the matrix's columns
+# are 8 bytes apart.
+SAMPLES["half"] = (
+    sheet(
+        scalar(FLOAT, 2, "h"),  # 0: 1
+        vector(4, FLOAT, 2, "t"),  # 1: 2, its scalar 1 again
+        matrix(3, 3, 2, "f"),  # 2: 3, its column 4
+        struct(32, member(2, 0, "f"), member(1, 24, "b"), name="F"),  # 3: 5
+        zero(0),  # 0: 6
+        splat(4, 0),  # 1: 7, its type 2 again
+        global_(3, UNIFORM, at=(0, 4), name="g"),  # 8, its wrapper 9, its pointer 10
+        flags=DEBUG,
+    ),
+    module(
+        11,
+        (CAPABILITY, 9),
+        (NAME, 1, ord("h")),
+        (NAME, 2, ord("t")),
+        (NAME, 3, ord("f")),
+        (MEMBER_NAME, 5, 0, ord("f")),
+        (MEMBER_NAME, 5, 1, ord("b")),
+        (NAME, 5, ord("F")),
+        (NAME, 8, ord("g")),
+        (MEMBER_DECORATE, 5, 0, OFFSET, 0),
+        (MEMBER_DECORATE, 5, 0, COL_MAJOR),
+        (MEMBER_DECORATE, 5, 0, MATRIX_STRIDE, 8),
+        (MEMBER_DECORATE, 5, 1, OFFSET, 24),
+        (DECORATE, 8, DESCRIPTOR_SET, 0),
+        (DECORATE, 8, BINDING, 4),
+        (DECORATE, 9, BLOCK),
+        (MEMBER_DECORATE, 9, 0, OFFSET, 0),
+        (TYPE_FLOAT, 1, 16),
+        (TYPE_VECTOR, 2, 1, 4),
+        (TYPE_VECTOR, 4, 1, 3),
+        (TYPE_MATRIX, 3, 4, 3),
+        (TYPE_STRUCT, 5, 3, 2),
+        (NULL, 1, 6),
+        (COMPOSITE, 2, 7, 6, 6, 6, 6),
+        (TYPE_STRUCT, 9, 5),
+        (TYPE_POINTER, 10, UNIFORM_CLASS, 9),
+        (VARIABLE, 10, 8, UNIFORM_CLASS),
+    ),
+)
+
 # A camera tunnel's tables as a warehouse might draw them: frames and chutes in a
 # uniform buffer, the chute log in a storage buffer, pictures by binding array.
 TUNNEL = sheet(

@@ -43,6 +43,11 @@ impl Writer {
         global_needs_wrapper(ir_module, &ir_module.global_variables[handle])
     }
 
+    /// How many capabilities are in use.
+    pub fn reference_capabilities(&self) -> usize {
+        self.capabilities_used.len()
+    }
+
     /// "Before `in_words` the used capabilities, the names and the annotations go
     /// into their sections."
     pub fn reference_words(mut self) -> Vec<Word> {

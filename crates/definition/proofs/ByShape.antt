@@ -13,7 +13,7 @@ use Rattle.definition.specs.Reader.{uses, idsAmong, layoutOf, formed}
 use Rattle.definition.specs.ReadTypes.{declarationOf, bytesOf, scalarBy, readScalar, readVector, typeBy}
 use Rattle.definition.specs.Shapes.{Kind, Shape, Key, inner, sized, rank, rankOf, opcodeOf, operandsOf, typeOf}
 use Rattle.definition.specs.Shapes.{sint, uint, float, bool, one, many, scalar, vector, matrix, pointer, valuePointer, image, sampler, accelerationStructure, rayQuery, bindingArray, bindingPointer, entry, shape}
-use Rattle.definition.specs.WellDeclared.{plainType, EqualTypes, declaresId, needs, intNeeds}
+use Rattle.definition.specs.WellDeclared.{plainType, EqualTypes, declaresId, needs, intNeeds, floatNeeds}
 use Rattle.definition.specs.Finding.{capabilitiesOf, kindCapabilities}
 use Rattle.definition.proofs.Truth.{both-true, true-is, alike-is}
 use Rattle.definition.proofs.Images.{images-agree}
@@ -69,6 +69,9 @@ scaled w n = go (eqb w n) refl
 
 integers-agree : (w : ℕ) → intNeeds (8 * w) ≡ kindCapabilities (sint w)
 integers-agree w = rw (scaled w 1, scaled w 2, scaled w 8)
+
+floats-agree : (w : ℕ) → floatNeeds (8 * w) ≡ kindCapabilities (float w)
+floats-agree w = rw (scaled w 2, scaled w 8)
 
 -- what a shape names lies less deep
 abbrev pub Deeper : Option Key → ℕ → Type 0
@@ -152,7 +155,7 @@ pub facts : (l : Shape) → Facts l
 unfolding needs
 facts (scalar (sint w)) = record { used = λ x y. refl; formed = λ id x y. taken tt; fits = λ h last id x y i j k. record { words = λ B p q. (omega arith, (omega arith, (omega arith, tt))); short = lit< tt }; needed = λ h id x y. integers-agree w; deeper = tt; inside = tt; small-inner = λ h. tt; small-length = λ h. tt; shallow = lit≤ tt; plain-inner = λ t. tt; plain-sized = λ t. refl; told = λ is id x y t r. rw (bytes-of w) refl }
 facts (scalar (uint w)) = record { used = λ x y. refl; formed = λ id x y. taken tt; fits = λ h last id x y i j k. record { words = λ B p q. (omega arith, (omega arith, (omega arith, tt))); short = lit< tt }; needed = λ h id x y. integers-agree w; deeper = tt; inside = tt; small-inner = λ h. tt; small-length = λ h. tt; shallow = lit≤ tt; plain-inner = λ t. tt; plain-sized = λ t. refl; told = λ is id x y t r. rw (bytes-of w) refl }
-facts (scalar (float w)) = record { used = λ x y. refl; formed = λ id x y. taken tt; fits = λ h last id x y i j k. record { words = λ B p q. (omega arith, (omega arith, tt)); short = lit< tt }; needed = λ h id x y. rw (scaled w 8); deeper = tt; inside = tt; small-inner = λ h. tt; small-length = λ h. tt; shallow = lit≤ tt; plain-inner = λ t. tt; plain-sized = λ t. refl; told = λ is id x y t r. rw (bytes-of w) refl }
+facts (scalar (float w)) = record { used = λ x y. refl; formed = λ id x y. taken tt; fits = λ h last id x y i j k. record { words = λ B p q. (omega arith, (omega arith, tt)); short = lit< tt }; needed = λ h id x y. floats-agree w; deeper = tt; inside = tt; small-inner = λ h. tt; small-length = λ h. tt; shallow = lit≤ tt; plain-inner = λ t. tt; plain-sized = λ t. refl; told = λ is id x y t r. rw (bytes-of w) refl }
 facts (scalar bool) = record { used = λ x y. refl; formed = λ id x y. taken tt; fits = λ h last id x y i j k. record { words = λ B p q. (omega arith, tt); short = lit< tt }; needed = λ h id x y. refl; deeper = tt; inside = tt; small-inner = λ h. tt; small-length = λ h. tt; shallow = lit≤ tt; plain-inner = λ t. tt; plain-sized = λ t. refl; told = λ is id x y t r. refl }
 facts (vector n k) = record { used = λ x y. refl; formed = λ id x y. taken tt; fits = λ h last id x y i j k. record { words = λ B p q. (omega arith, (omega arith, (omega arith, tt))); short = lit< tt }; needed = λ h id x y. refl; deeper = lit< tt; inside = tt; small-inner = λ h. h .1; small-length = λ h. tt; shallow = lit≤ tt; plain-inner = λ t. plain-scalar k; plain-sized = λ t. refl; told = λ is id x y t r. rw r refl }
 facts (matrix c r w) = record { used = λ x y. refl; formed = λ id x y. taken tt; fits = λ h last id x y i j k. record { words = λ B p q. (omega arith, (omega arith, (omega arith, tt))); short = lit< tt }; needed = λ h id x y. refl; deeper = lit< tt; inside = tt; small-inner = λ h. (h .1, h .2); small-length = λ h. tt; shallow = lit≤ tt; plain-inner = λ t. tt; plain-sized = λ t. refl; told = λ is id x y t r. rw r refl }

@@ -36,7 +36,7 @@ int-under : (b : ℕ) → Under W (intNeeds b)
 int-under b = pick-for (Under W) (eqb b 8) _ _ (lit≤ tt, tt) (pick-for (Under W) (eqb b 16) _ _ (lit≤ tt, tt) (pick-for (Under W) (eqb b 64) _ [] (lit≤ tt, tt) tt))
 
 float-under : (b : ℕ) → Under W (floatNeeds b)
-float-under b = pick-for (Under W) (eqb b 64) _ [] (lit≤ tt, tt) tt
+float-under b = pick-for (Under W) (eqb b 16) _ _ (lit≤ tt, tt) (pick-for (Under W) (eqb b 64) _ [] (lit≤ tt, tt) tt)
 
 format-under : (f : ℕ) → Under W (formatNeeds f)
 format-under f = pick-for (Under W) (extendedFormat f) _ [] (lit≤ tt, tt) tt

@@ -8,7 +8,7 @@ use native.Mathlib.Decide.{ℕ-discrete}
 use native.Mathlib.Omega.{arith}
 use lib.Dec.{T, lit<}
 use Rattle.definition.specs.Instructions.{Instruction, capability, typeFloat, typeInt, typeVector, typeMatrix, typeImage, decorate}
-use Rattle.definition.specs.Numbers.{CapabilityInt8, CapabilitySampled1D, CapabilityImage1D, CapabilityStorageImageExtendedFormats, DecorationArrayStride, Dim1D, Dim2D, ImageFormatUnknown, ImageFormatR32f, ImageFormatRg32f}
+use Rattle.definition.specs.Numbers.{CapabilityFloat16, CapabilityFloat64, CapabilityInt8, CapabilitySampled1D, CapabilityImage1D, CapabilityStorageImageExtendedFormats, DecorationArrayStride, Dim1D, Dim2D, ImageFormatUnknown, ImageFormatR32f, ImageFormatRg32f}
 use Rattle.definition.specs.Reader.{uses, readModule, readAll, isString}
 use Rattle.definition.specs.ReadTypes.{declarationOf, readScalar, readVector, readType}
 use Rattle.definition.specs.Shapes.{Key, Shape, entry, scalar, matrix, image, sint, uint, float, kindOf, imageOf, shapeOf, sameKey}
@@ -49,6 +49,19 @@ unlisted h = omega (arith, h .capabilities CapabilityInt8)
 needless : WellDeclared 0 2 (capability CapabilityInt8 ∷ typeFloat 1 32 ∷ []) → ⊥
 unfolding occurrences needs needed listedIn listedBy
 needless h = omega (arith, h .capabilities CapabilityInt8)
+
+-- Float16 is not listed for a 16-bit float (paper 1), or Float64 is in its place, or a 32-bit float has it
+half-unlisted : WellDeclared 0 2 (typeFloat 1 16 ∷ []) → ⊥
+unfolding occurrences needs needed listedIn listedBy
+half-unlisted h = omega (arith, h .capabilities CapabilityFloat16)
+
+double-for-half : WellDeclared 0 2 (capability CapabilityFloat64 ∷ typeFloat 1 16 ∷ []) → ⊥
+unfolding occurrences needs needed listedIn listedBy
+double-for-half h = omega (arith, h .capabilities CapabilityFloat64)
+
+half-needless : WellDeclared 0 2 (capability CapabilityFloat16 ∷ typeFloat 1 32 ∷ []) → ⊥
+unfolding occurrences needs needed listedIn listedBy
+half-needless h = omega (arith, h .capabilities CapabilityFloat16)
 
 -- a decoration on an id that nothing declares
 stray : WellDeclared 0 2 (decorate 9 DecorationArrayStride (16 ∷ []) ∷ typeFloat 1 32 ∷ []) → ⊥

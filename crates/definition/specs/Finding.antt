@@ -6,7 +6,7 @@ use mathlib.Core.List.{List, [], _∷_, _++_}
 use mathlib.Core.Option.{Option, some, none}
 use lib.Dec.{eqb}
 use Rattle.definition.specs.Choice.{pick, among}
-use Rattle.definition.specs.Numbers.{CapabilityFloat64, CapabilityInt64, CapabilityInt16, CapabilityInt8, CapabilitySampled1D, CapabilityImage1D, CapabilitySampledCubeArray, CapabilityImageCubeArray, CapabilityStorageImageExtendedFormats, CapabilityRayQueryKHR, Dim1D, DimCube}
+use Rattle.definition.specs.Numbers.{CapabilityFloat16, CapabilityFloat64, CapabilityInt64, CapabilityInt16, CapabilityInt8, CapabilitySampled1D, CapabilityImage1D, CapabilitySampledCubeArray, CapabilityImageCubeArray, CapabilityStorageImageExtendedFormats, CapabilityRayQueryKHR, Dim1D, DimCube}
 use Rattle.definition.specs.Numbers.{ImageFormatRg32f, ImageFormatRg16f, ImageFormatR11fG11fB10f, ImageFormatR16f, ImageFormatRgba16, ImageFormatRgb10A2, ImageFormatRg16, ImageFormatRg8, ImageFormatR16, ImageFormatR8, ImageFormatRgba16Snorm, ImageFormatRg16Snorm, ImageFormatRg8Snorm, ImageFormatR16Snorm, ImageFormatR8Snorm, ImageFormatRg32i, ImageFormatRg16i, ImageFormatRg8i, ImageFormatR16i, ImageFormatR8i, ImageFormatRgb10a2ui, ImageFormatRg32ui, ImageFormatRg16ui, ImageFormatRg8ui, ImageFormatR16ui, ImageFormatR8ui}
 use Rattle.definition.specs.Literals.{Literal, f64, f32, u32, i32, boolean, sameLiteral, literalWords}
 use Rattle.definition.specs.Instructions.{Instruction, constantTrue, constantFalse, constantOp, constantComposite, constantNull}
@@ -16,11 +16,12 @@ use Rattle.definition.specs.State.{Constants, Composite, composite, same
 
 -- ---- capabilities
 
--- "integers of 8, 16, 64 bits Int8, Int16, Int64 and 64-bit floats Float64"; widths are in bytes
+-- "integers of 8, 16, 64 bits Int8, Int16, Int64 and 64-bit floats Float64"; paper 1: "The specification wants Float16 for such a
+-- type", a Float of width 2; widths are in bytes
 abbrev pub kindCapabilities : Kind → List ℕ
 kindCapabilities (sint w) = pick (eqb w 1) (CapabilityInt8 ∷ []) (pick (eqb w 2) (CapabilityInt16 ∷ []) (pick (eqb w 8) (CapabilityInt64 ∷ []) []))
 kindCapabilities (uint w) = pick (eqb w 1) (CapabilityInt8 ∷ []) (pick (eqb w 2) (CapabilityInt16 ∷ []) (pick (eqb w 8) (CapabilityInt64 ∷ []) []))
-kindCapabilities (float w) = pick (eqb w 8) (CapabilityFloat64 ∷ []) []
+kindCapabilities (float w) = pick (eqb w 2) (CapabilityFloat16 ∷ []) (pick (eqb w 8) (CapabilityFloat64 ∷ []) [])
 kindCapabilities bool = []
 
 -- "formats as in `request_image_format_capabilities`"

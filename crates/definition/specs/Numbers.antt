@@ -108,6 +108,9 @@ abbrev pub DecorationOffset : ℕ
 DecorationOffset = 35
 
 -- Capabilities
+abbrev pub CapabilityFloat16 : ℕ
+CapabilityFloat16 = 9
+
 abbrev pub CapabilityFloat64 : ℕ
 CapabilityFloat64 = 10
 

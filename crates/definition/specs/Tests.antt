@@ -131,9 +131,10 @@ namesOf (type t) = t .name ∷ innerNames (t .inner)
 namesOf (constant c) = []
 namesOf (global g) = g .name ∷ []
 
--- "Kind: 0 Sint, 1 Uint, 2 Float, 3 Bool. Widths in bytes: integers 1, 2, 4, 8; Float and matrices 4, 8; Bool 1."
+-- "Kind: 0 Sint, 1 Uint, 2 Float, 3 Bool. Widths in bytes: integers 1, 2, 4, 8; Float and matrices 4, 8; Bool 1."; paper 1: "Float
+-- and matrix width 2 become allowed values in types"
 abbrev pub floatWidth : ℕ → Bool
-floatWidth w = among w (4 ∷ 8 ∷ [])
+floatWidth w = among w (2 ∷ 4 ∷ 8 ∷ [])
 
 unfoldable pub scalarFits : ℕ → ℕ → Bool
 scalarFits k w =

@@ -9,7 +9,7 @@ use lib.Dec.{eqb, T}
 use lib.ListN.{getElem?, take, drop}
 use Rattle.definition.specs.Choice.{pick, among, within}
 use Rattle.definition.specs.Numbers.{OpName, OpMemberName, OpCapability, OpTypeBool, OpTypeInt, OpTypeFloat, OpTypeVector, OpTypeMatrix, OpTypeImage, OpTypeSampler, OpDecorate, OpMemberDecorate, OpTypeRayQueryKHR, OpTypeAccelerationStructureKHR}
-use Rattle.definition.specs.Numbers.{CapabilityFloat64, CapabilityInt64, CapabilityInt16, CapabilityInt8, CapabilitySampled1D, CapabilityImage1D, CapabilitySampledCubeArray, CapabilityImageCubeArray, CapabilityStorageImageExtendedFormats, CapabilityRayQueryKHR}
+use Rattle.definition.specs.Numbers.{CapabilityFloat16, CapabilityFloat64, CapabilityInt64, CapabilityInt16, CapabilityInt8, CapabilitySampled1D, CapabilityImage1D, CapabilitySampledCubeArray, CapabilityImageCubeArray, CapabilityStorageImageExtendedFormats, CapabilityRayQueryKHR}
 use Rattle.definition.specs.Numbers.{Dim1D, DimCube, ImageFormatRg32f, ImageFormatR8Snorm, ImageFormatRg32i, ImageFormatR8i, ImageFormatRgb10a2ui, ImageFormatR8ui}
 use Rattle.definition.specs.Instructions.{Instruction, version, generator}
 use Rattle.definition.specs.Reader.{layoutOf, idsAmong, uses, Module, readModule}
@@ -70,8 +70,9 @@ listedIn (i ∷ is) = listedBy i ++ listedIn is
 abbrev pub intNeeds : ℕ → List ℕ
 intNeeds width = pick (eqb width 8) (CapabilityInt8 ∷ []) (pick (eqb width 16) (CapabilityInt16 ∷ []) (pick (eqb width 64) (CapabilityInt64 ∷ []) []))
 
+-- paper 1: "The capability clause of the mission's last demand counts Float16 too."
 abbrev pub floatNeeds : ℕ → List ℕ
-floatNeeds width = pick (eqb width 64) (CapabilityFloat64 ∷ []) []
+floatNeeds width = pick (eqb width 16) (CapabilityFloat16 ∷ []) (pick (eqb width 64) (CapabilityFloat64 ∷ []) [])
 
 -- "formats as in `request_image_format_capabilities`", which are, in the Specification's order of them, Rg32f (6) to R8Snorm (20),
 -- Rg32i (25) to R8i (29) and Rgb10a2ui (34) to R8ui (39)

@@ -22,7 +22,7 @@ use spirv::instructions::type_vector;
 ghost use mathlib.Core.Path.{_≡_};
 ghost use mathlib.Core.List.{_++_};
 ghost use Prim.Native.Nat.{_<_};
-ghost use Rattle.definition.specs.Shapes.{kindOf, inner, sized, typeOf, scalar, entry};
+ghost use Rattle.definition.specs.Shapes.{kindOf, float, inner, sized, typeOf, scalar, entry};
 ghost use Rattle.definition.specs.Finding.{kindCapabilities, formatCapabilities, dimCapabilities, capabilitiesOf};
 ghost use Rattle.definition.specs.Instructions.{words};
 ghost use Rattle.spirv.specs.Put.{Put};
@@ -127,6 +127,8 @@ const IMAGE_FORMAT_RGBA32UI: u8 = 30;
 const IMAGE_FORMAT_RGB10A2UI: u8 = 34;
 
 const IMAGE_FORMAT_R8UI: u8 = 39;
+
+const CAPABILITY_FLOAT16: u32 = 9;
 
 const CAPABILITY_FLOAT64: u32 = 10;
 
@@ -385,13 +387,19 @@ fn kind_capability(kind: ScalarKind, width: u8) -> u32
     match kind {
         ScalarKind::Sint => integer_capability(width),
         ScalarKind::Uint => integer_capability(width),
-        ScalarKind::Float => {
-            if width == 8 {
-                return CAPABILITY_FLOAT64;
-            }
-            0
-        }
+        ScalarKind::Float => float_capability(width),
         ScalarKind::Bool => 0,
+    }
+}
+
+// What a float uses; the Rust asks for nothing at width 2.
+fn float_capability(width: u8) -> u32
+    ensures { λ r. ⌜ asList r ≡ kindCapabilities (float width) ⌝ }
+{
+    match width {
+        2 => CAPABILITY_FLOAT16,
+        8 => CAPABILITY_FLOAT64,
+        _ => 0,
     }
 }
 

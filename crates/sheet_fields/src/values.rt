@@ -22,6 +22,7 @@ pub fn float_width(w: u8) -> bool
     ensures { λ r. ⌜ r ≡ floatWidth w ⌝ }
 {
     match w {
+        2 => true,
         4 => true,
         8 => true,
         _ => false,

@@ -3,14 +3,17 @@
 
 use crate::compiled::{self, Compiled, Slip, SLIPS};
 use crate::faults::{Fault, FAULTS};
-use crate::generator::{self, Case, Expect, Random};
+use crate::generator::{self, Case, Expect, Random, PAPERS};
 use crate::lines::{self, Line};
 use crate::reached::Reached;
 use crate::reference;
 use crate::second::{self, Refusal};
-use crate::sheet::{HEADER, MAX_BOUND};
+use crate::sheet::{has_halves, HEADER, MAX_BOUND};
 
 pub const SEED: u64 = 0x0907_0004_1943_0300;
+
+/// Of what paper 1 adds.
+const HALVES_SEED: u64 = 0x0900_0009_0016_0201;
 
 /// Of a run at scale, where no other is said.
 pub const SCALE_SEED: u64 = 0x0316_0040_9600_1719;
@@ -59,10 +62,12 @@ fn end_of_record(sheet: &[u8], index: usize) -> usize {
     at
 }
 
-/// Every case of a run: the sweep, families, edges, then `count` random ones.
+/// Every case of a run: the sweep, families, edges and `count` random ones of document
+/// 01's, then those of paper 1.
 fn cases(count: usize) -> Vec<Case> {
     let mut cases = swept();
     cases.extend(unswept(count));
+    cases.extend(halved(count));
     cases
 }
 
@@ -71,17 +76,32 @@ fn swept() -> Vec<Case> {
 }
 
 fn unswept(count: usize) -> Vec<Case> {
-    let mut random = Random(SEED);
+    let mut random = Random::new(SEED, 0);
     let mut cases = generator::families(&mut random);
     let bound_of = |sheet: &[u8]| match reference::run(sheet) {
         reference::Answer::Module(words, _) => Some(words[3]),
         reference::Answer::Missing(_) => None,
     };
     cases.extend(generator::edges(&mut random, &bound_of));
+    cases.extend(drawn(&mut random, count));
+    cases
+}
+
+/// The families of 16-bit floats, and random sheets that may have such types.
+fn halved(count: usize) -> Vec<Case> {
+    let mut random = Random::new(HALVES_SEED, 1);
+    let mut cases = generator::halves(&mut random);
+    cases.extend(drawn(&mut random, count));
+    cases
+}
+
+/// Some damaged sheets for each number, then `count` random ones.
+fn drawn(random: &mut Random, count: usize) -> Vec<Case> {
+    let mut cases = Vec::new();
     for number in generator::DAMAGES {
-        cases.extend((0..20).map(|_| generator::damaged_as(&mut random, number)));
+        cases.extend((0..20).map(|_| generator::damaged_as(random, number)));
     }
-    cases.extend((0..count).map(|n| random_case(&mut random, n)));
+    cases.extend((0..count).map(|n| random_case(random, n)));
     cases
 }
 
@@ -304,7 +324,7 @@ pub fn scale(count: usize, seed: u64) -> bool {
         return false;
     }
     let began = std::time::Instant::now();
-    let mut random = Random(seed);
+    let mut random = Random::new(seed, PAPERS);
     let mut tally = Tally::new();
     for n in 0..count {
         let Some(all) = asked_of(random_case(&mut random, n)) else { return false };
@@ -429,7 +449,7 @@ pub fn print_fresh(count: usize, seed: u64) -> bool {
         return false;
     }
     println!("# {count} lines from seed {seed:#018x}");
-    let mut random = Random(seed);
+    let mut random = Random::new(seed, PAPERS);
     let mut printed = 0;
     for n in 0.. {
         let Some(one) = asked_of(random_case(&mut random, n)).and_then(|mut all| all.pop()) else {
@@ -468,32 +488,55 @@ fn store(one: &Asked) {
     }
 }
 
-/// The stored sample, all of the comparison's domain: for each fault the shortest
-/// sheet that shows it, then sheets spread evenly over the families and over random
-/// ones, short ones and a few long ones.
+/// The stored sample, all of the comparison's domain: document 01's part, then that of
+/// paper 1, each of whose sheets has a 16-bit float.
 pub fn print_sample() -> bool {
-    let families = unswept(0).len();
-    let mut cases = unswept(6_000);
-    let random = cases.split_off(families);
-    let (Some(mut families), Some(mut random)) = (asked(cases), asked(random)) else {
-        return false;
-    };
-    let by_rust = |one: &Asked| match &one.expected {
+    let mut faults = FAULTS.to_vec();
+    let parts = [(unswept(0).len(), unswept(6_000), 4), (halved(0).len(), halved(1_500), 1)];
+    for (paper, (families, mut cases, quarters)) in parts.into_iter().enumerate() {
+        if paper > 0 {
+            println!("# paper {paper}");
+        }
+        let random = cases.split_off(families);
+        let (Some(mut families), Some(mut random)) = (asked(cases), asked(random)) else {
+            return false;
+        };
+        let stays = |one: &Asked| by_rust(one) && has_halves(&one.sheet) == (paper > 0);
+        families.retain(stays);
+        random.retain(stays);
+        print_part(&families, &random, quarters, &mut faults);
+    }
+    true
+}
+
+/// Whether the Rust says what is expected.
+fn by_rust(one: &Asked) -> bool {
+    match &one.expected {
         Expected::Module { .. } => true,
         Expected::Refused { record, .. } => record.is_some(),
         Expected::Opinion(_) => false,
-    };
-    families.retain(by_rust);
-    random.retain(by_rust);
+    }
+}
 
-    let mut shortest: Vec<&Asked> = families.iter().chain(&random).collect();
+/// A part of the sample: for each fault that no part before has shown the shortest sheet
+/// that does, then sheets spread evenly over the families and over random ones, short ones
+/// and a few long ones, by quarters of what document 01's part has.
+fn print_part(
+    families: &[Asked],
+    random: &[Asked],
+    quarters: usize,
+    faults: &mut Vec<(Fault, &str)>,
+) {
+    let mut shortest: Vec<&Asked> = families.iter().chain(random).collect();
     shortest.sort_by_key(|one| one.sheet.len());
-    for &(fault, what) in FAULTS {
-        if let Some(one) = shortest.iter().find(|one| difference(one, Some(fault)).is_some()) {
+    faults.retain(|&(fault, what)| {
+        let shown = shortest.iter().find(|one| difference(one, Some(fault)).is_some());
+        if let Some(one) = shown {
             println!("# not so: {what}");
             store(one);
         }
-    }
+        shown.is_none()
+    });
     let spread = |all: &[Asked], count: usize, lengths: std::ops::Range<usize>| {
         let fitting: Vec<&Asked> =
             all.iter().filter(|one| lengths.contains(&line(one).len())).collect();
@@ -502,10 +545,9 @@ pub fn print_sample() -> bool {
         }
     };
     println!("# from the families");
-    spread(&families, 120, 0..1_500);
+    spread(families, 30 * quarters, 0..1_500);
     println!("# random");
-    spread(&random, 140, 0..1_500);
-    spread(&random, 20, 1_500..6_000);
-    spread(&random, 4, 6_000..24_000);
-    true
+    spread(random, 35 * quarters, 0..1_500);
+    spread(random, 5 * quarters, 1_500..6_000);
+    spread(random, quarters, 6_000..24_000);
 }

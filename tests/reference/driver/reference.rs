@@ -41,12 +41,18 @@ pub fn run(bytes: &[u8]) -> Answer {
     let mut reader = Reader::new(constants_of(bytes));
     // The options are known once the first type, constant or global comes.
     let mut writer = None;
+    // How many capabilities the Rust has used before the first type of 16-bit floats.
+    let mut float16 = None;
     let mut rest = &bytes[HEADER..];
     let mut index = 0;
     while let Some((record, after)) = next_record(rest) {
+        let half = matches!(&record, Record::Type(t) if t.inner.is_half());
         if let Some(entered) = reader.enter(&mut options, record) {
             reader.keep(&entered);
             let w = writer.get_or_insert_with(|| empty_writer(&options, bytes));
+            if half && float16.is_none() {
+                float16 = Some(w.reference_capabilities());
+            }
             match reader.write(w, &entered) {
                 Ok(_) => {}
                 Err(spv::Error::MissingCapabilities(..)) => return Answer::Missing(index),
@@ -58,7 +64,27 @@ pub fn run(bytes: &[u8]) -> Answer {
     }
     let writer = writer.unwrap_or_else(|| empty_writer(&options, bytes));
     let wrapped = |&global| spv::Writer::reference_wrapped(&reader.module, global);
-    Answer::Module(writer.reference_words(), reader.globals.iter().map(wrapped).collect())
+    let mut words = writer.reference_words();
+    if let Some(before) = float16 {
+        put_float16(&mut words, before);
+    }
+    Answer::Module(words, reader.globals.iter().map(wrapped).collect())
+}
+
+/// Paper 1: "At width 2 the comparison with the Rust is made with the Float16 line taken
+/// out", since the Rust lists none. A side's words are those with the line, so here it is
+/// put in, where it is due by order of first use, and no other word is touched: a side that
+/// agrees has the Rust's words once the line is taken out, and one whose line is missing,
+/// repeated or elsewhere does not agree.
+fn put_float16(words: &mut Vec<u32>, before: usize) {
+    const CAPABILITY: u32 = 2 << 16 | 17;
+    const FLOAT16: u32 = 9;
+    const MODULE_HEADER: usize = 5;
+    let listed =
+        || (MODULE_HEADER..words.len()).step_by(2).take_while(|&at| words[at] == CAPABILITY);
+    assert!(listed().count() >= before && listed().all(|at| words[at + 1] != FLOAT16));
+    let at = MODULE_HEADER + 2 * before;
+    words.splice(at..at, [CAPABILITY, FLOAT16]);
 }
 
 /// A sheet that Check fits, entered in full, for the benchmark to write on its own.

@@ -39,6 +39,9 @@ pub const SCALARS: [(u8, u8); 11] = [
     (BOOL, 1),
 ];
 
+/// The one that paper 1 adds to them.
+pub const HALF: (u8, u8) = (FLOAT, 2);
+
 /// Spaces.
 pub const FUNCTION: u8 = 0;
 pub const PRIVATE: u8 = 1;
@@ -167,6 +170,38 @@ impl Record {
             Record::Global(_) => 96,
         }
     }
+}
+
+impl Inner {
+    /// Whether this type declares a 16-bit float, for itself or as what it is made of.
+    pub fn is_half(&self) -> bool {
+        match *self {
+            Inner::Scalar { kind, width }
+            | Inner::Atomic { kind, width }
+            | Inner::Vector { kind, width, .. }
+            | Inner::ValuePointer { kind, width, .. } => (kind, width) == HALF,
+            Inner::Matrix { width, .. } => width == HALF.1,
+            _ => false,
+        }
+    }
+}
+
+/// Whether a type of any sheet, up to a record that is none, declares a 16-bit float.
+pub fn has_halves(sheet: &[u8]) -> bool {
+    let mut rest = sheet.get(HEADER..).unwrap_or(&[]);
+    while let Some((&length, after)) = rest.split_first_chunk::<2>() {
+        let Some((record, after)) = after.split_at_checked(u16::from_be_bytes(length) as usize)
+        else {
+            return false;
+        };
+        let Some((&tag, body)) = record.split_first() else { return false };
+        match rank(tag).map(|_| decode(tag, body)) {
+            Some(Ok(Record::Type(t))) if t.inner.is_half() => return true,
+            Some(Ok(_)) => rest = after,
+            _ => return false,
+        }
+    }
+    false
 }
 
 /// The rank of a tag, or none for an unknown one.

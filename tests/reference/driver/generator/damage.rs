@@ -12,7 +12,10 @@ pub fn damaged_as(random: &mut Random, number: u8) -> Case {
     loop {
         // Not every sheet can be damaged in every way.
         if let Some(sheet) = damage(random, number) {
-            return Case { sheet, expect: Expect::Refused(number) };
+            // A Float of width 2 is damage without paper 1, and let in by it.
+            let let_in = number == 10 && random.papers == 0 && has_halves(&sheet);
+            let expect = if let_in { Expect::Unknown } else { Expect::Refused(number) };
+            return Case { sheet, expect };
         }
     }
 }
@@ -51,7 +54,7 @@ fn damage(random: &mut Random, number: u8) -> Option<Vec<u8>> {
     match number {
         1 => {
             let whole = joined(head, &encode(&records));
-            let length = random.pick(&[random.0 as usize % 6, MAX_SHEET + 1, MAX_SHEET + 300]);
+            let length = random.pick(&[random.state as usize % 6, MAX_SHEET + 1, MAX_SHEET + 300]);
             let mut cut = whole;
             cut.resize(length, 0);
             return Some(cut);
@@ -61,7 +64,7 @@ fn damage(random: &mut Random, number: u8) -> Option<Vec<u8>> {
         4 => {
             let mut whole = joined(head, &encode(&records));
             // Past the end: by one, or by any number.
-            let past = 5 + random.pick(&[0, random.0 as u16 % (u16::MAX - 4)]);
+            let past = 5 + random.pick(&[0, random.state as u16 % (u16::MAX - 4)]);
             whole.extend(match random.below(4) {
                 0 => vec![random.next() as u8],
                 1 => vec![0, 0, 16, 255, 2, 4],
@@ -224,7 +227,7 @@ fn spoil_value(random: &mut Random, record: &mut Record) -> Option<()> {
         Record::Remap { size, .. } => *size = 0,
         Record::Type(Type { inner: Inner::Struct { members, .. }, .. }) => {
             let count =
-                MAX_MEMBERS + 1 + random.pick(&[0, random.0 as usize % (255 - MAX_MEMBERS)]);
+                MAX_MEMBERS + 1 + random.pick(&[0, random.state as usize % (255 - MAX_MEMBERS)]);
             members.resize(count, member(0, 0));
         }
         Record::Global(g) if g.bound == 0 && random.chance(1, 2) => {
@@ -235,7 +238,7 @@ fn spoil_value(random: &mut Random, record: &mut Record) -> Option<()> {
             }
         }
         _ => {
-            let mut fields = small_fields(record);
+            let mut fields = small_fields(record, random.papers);
             if fields.is_empty() {
                 return None;
             }

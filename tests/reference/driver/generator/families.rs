@@ -36,10 +36,10 @@ fn every_image() -> Vec<Inner> {
     images
 }
 
-/// Every type without a reference, images apart.
-fn every_plain_type() -> Vec<Inner> {
+/// Every type that is made of these scalars, or is a matrix of these widths.
+pub(super) fn every_type_of(scalars: &[(u8, u8)], widths: &[u8]) -> Vec<Inner> {
     let mut types = Vec::new();
-    for (kind, width) in SCALARS {
+    for &(kind, width) in scalars {
         types.push(Inner::Scalar { kind, width });
         types.push(Inner::Atomic { kind, width });
         for size in 2..=4 {
@@ -53,11 +53,17 @@ fn every_plain_type() -> Vec<Inner> {
     }
     for columns in 2..=4 {
         for rows in 2..=4 {
-            for width in [4, 8] {
+            for &width in widths {
                 types.push(Inner::Matrix { columns, rows, width });
             }
         }
     }
+    types
+}
+
+/// Every type without a reference, images apart, that document 01 has.
+pub(super) fn every_plain_type() -> Vec<Inner> {
+    let mut types = every_type_of(&SCALARS, &[4, 8]);
     types.extend((0..2).map(|comparison| Inner::Sampler { comparison }));
     types.extend([Inner::AccelerationStructure, Inner::RayQuery]);
     types
@@ -82,16 +88,16 @@ pub(super) fn structure(members: &[u16]) -> Inner {
 }
 
 /// Types that a global can have, each with the entries below it; the last one is
-/// meant. One for each way in which rules tell types apart.
-fn global_types() -> Vec<Vec<Inner>> {
-    let float = || Inner::Scalar { kind: FLOAT, width: 4 };
-    let matrix = || Inner::Matrix { columns: 2, rows: 3, width: 4 };
+/// meant. One for each way in which rules tell types apart; floats have this width.
+pub(super) fn global_types(width: u8) -> Vec<Vec<Inner>> {
+    let float = || Inner::Scalar { kind: FLOAT, width };
+    let matrix = || Inner::Matrix { columns: 2, rows: 3, width };
     let dynamic = || Inner::Array { base: 0, size: 0, stride: 4 };
     let image = |class, first, second| Inner::Image { dim: 1, arrayed: 0, class, first, second };
     let mut types = vec![
         vec![float()],
         vec![Inner::Atomic { kind: UINT, width: 4 }],
-        vec![Inner::Vector { size: 3, kind: FLOAT, width: 4 }],
+        vec![Inner::Vector { size: 3, kind: FLOAT, width }],
         vec![matrix()],
         vec![float(), Inner::Array { base: 0, size: 5, stride: 16 }],
         vec![float(), dynamic()],
@@ -110,7 +116,7 @@ fn global_types() -> Vec<Vec<Inner>> {
         vec![float(), dynamic(), structure(&[0, 1]), structure(&[0, 2])],
         vec![float(), Inner::BindingArray { base: 0, size: 0 }, structure(&[0, 1])],
         vec![float(), Inner::Pointer { base: 0, space: UNIFORM, access: 0 }],
-        vec![Inner::ValuePointer { size: 0, kind: FLOAT, width: 4, space: UNIFORM, access: 0 }],
+        vec![Inner::ValuePointer { size: 0, kind: FLOAT, width, space: UNIFORM, access: 0 }],
         vec![Inner::Sampler { comparison: 0 }],
         vec![Inner::AccelerationStructure],
         vec![Inner::RayQuery],
@@ -139,9 +145,9 @@ fn is_zeroable(types: &[Inner]) -> bool {
 
 /// Every space by type by bound, remapped or not and with each flag; those that
 /// are unfit with their 13.
-fn every_global() -> Vec<Case> {
+pub(super) fn every_global(all: &[Vec<Inner>]) -> Vec<Case> {
     let mut cases = Vec::new();
-    for types in global_types() {
+    for types in all {
         for (space, access) in SPACES {
             for (bound, remap) in [(0, false), (0, true), (1, false), (1, true)] {
                 let last = types.last().expect("a type");
@@ -149,7 +155,7 @@ fn every_global() -> Vec<Case> {
                 let unfit = space == FUNCTION
                     || pointer
                     || (bound == 1 && !matches!(space, UNIFORM | STORAGE | HANDLE))
-                    || (matches!(space, PRIVATE | WORKGROUP) && !is_zeroable(&types));
+                    || (matches!(space, PRIVATE | WORKGROUP) && !is_zeroable(types));
                 for flags in 0..4 {
                     let ty = types.len() as u16 - 1;
                     let name = Some(b"chute".to_vec());
@@ -174,15 +180,15 @@ fn every_global() -> Vec<Case> {
 
 /// Two entries that differ in name alone, with a zero of each where there is
 /// one and a global of each.
-fn twins() -> Vec<Case> {
+pub(super) fn twins(all: &[Vec<Inner>]) -> Vec<Case> {
     let mut cases = Vec::new();
-    for types in global_types() {
+    for types in all {
         for flags in [0, DEBUG] {
             let twin = Type { name: Some(b"twin".to_vec()), inner: types[types.len() - 1].clone() };
             let last = types.len() as u16;
             let mut records: Vec<Record> = types.iter().cloned().map(unnamed).collect();
             records.push(Record::Type(twin));
-            if is_zeroable(&types) {
+            if is_zeroable(types) {
                 for ty in [last - 1, last] {
                     records.push(Record::Constant(Constant::Zero(ty)));
                 }
@@ -232,8 +238,17 @@ fn every_pair_of_globals() -> Vec<Case> {
     cases
 }
 
-/// Capabilities that the rules know, and Shader.
-pub(super) const CAPABILITIES: [u32; 11] = [1, 10, 11, 22, 34, 39, 43, 44, 45, 49, 4472];
+/// Capabilities that document 01's rules know, and Shader.
+const CAPABILITIES: [u32; 11] = [1, 10, 11, 22, 34, 39, 43, 44, 45, 49, 4472];
+
+/// The same with those of papers; paper 1 knows Float16.
+pub(super) fn capabilities(papers: u8) -> Vec<u32> {
+    let mut all = CAPABILITIES.to_vec();
+    if papers >= 1 {
+        all.push(9);
+    }
+    all
+}
 
 /// Each image and each plain type alone; images also with one capability short.
 pub fn families(random: &mut Random) -> Vec<Case> {
@@ -285,8 +300,8 @@ pub fn families(random: &mut Random) -> Vec<Case> {
         ];
         cases.push(domain(&Sheet { start: length as u32, flags: DEBUG, records }));
     }
-    cases.extend(twins());
-    cases.extend(every_global());
+    cases.extend(twins(&global_types(4)));
+    cases.extend(every_global(&global_types(4)));
     cases.extend(every_pair_of_globals());
     cases
 }

@@ -4,6 +4,7 @@
 mod damage;
 mod edges;
 mod families;
+mod halves;
 mod sweep;
 mod valid;
 mod values;
@@ -13,6 +14,7 @@ pub use damage::{changed, damaged, damaged_as, DAMAGES};
 pub use edges::edges;
 pub use families::families;
 use families::*;
+pub use halves::halves;
 pub use sweep::sweep;
 use valid::*;
 pub use valid::{aim, valid};
@@ -41,13 +43,25 @@ fn domain(sheet: &Sheet) -> Case {
     Case { sheet, expect: Expect::Domain }
 }
 
-/// The generator splitmix64.
-pub struct Random(pub u64);
+/// How many of document 02's papers there are by now.
+pub const PAPERS: u8 = 1;
+
+/// The generator splitmix64. Beside its state it knows up to which paper of document 02
+/// values and records are drawn, 0 for document 01 alone: what was stored before a paper
+/// is drawn without it and stays as it is, and what the paper adds comes behind.
+pub struct Random {
+    state: u64,
+    papers: u8,
+}
 
 impl Random {
+    pub fn new(seed: u64, papers: u8) -> Self {
+        Random { state: seed, papers }
+    }
+
     fn next(&mut self) -> u64 {
-        self.0 = self.0.wrapping_add(0x9e37_79b9_7f4a_7c15);
-        let mut z = self.0;
+        self.state = self.state.wrapping_add(0x9e37_79b9_7f4a_7c15);
+        let mut z = self.state;
         z = (z ^ (z >> 30)).wrapping_mul(0xbf58_476d_1ce4_e5b9);
         z = (z ^ (z >> 27)).wrapping_mul(0x94d0_49bb_1331_11eb);
         z ^ (z >> 31)

@@ -51,10 +51,10 @@ impl Sweep {
     /// Fields of a record that stands behind others, one after the other; all where
     /// none is named.
     fn fields(&mut self, before: &[Record], record: &Record, named: &[&str]) {
-        let all = small_fields(&mut record.clone()).len();
+        let all = small_fields(&mut record.clone(), PAPERS).len();
         for n in 0..all {
             let mut changed = record.clone();
-            let Field { what, values, .. } = small_fields(&mut changed).swap_remove(n);
+            let Field { what, values, .. } = small_fields(&mut changed, PAPERS).swap_remove(n);
             if !named.is_empty() && !named.contains(&what) {
                 continue;
             }
@@ -63,7 +63,7 @@ impl Sweep {
             let top = if what == "width" { 8 } else { *values.iter().max().expect("a value") };
             for byte in (0..=255).filter(|&b| b <= top + 3 || FAR.contains(&b)) {
                 let mut changed = record.clone();
-                *small_fields(&mut changed).swap_remove(n).byte = byte;
+                *small_fields(&mut changed, PAPERS).swap_remove(n).byte = byte;
                 let expect = match values.contains(&byte) {
                     false => Expect::Refused(10),
                     true => expected_of(&changed),
@@ -266,6 +266,21 @@ fn plain_types(s: &mut Sweep) {
         s.fields(&[], &unnamed(make(BOOL, 1)), &["kind", "width"]);
     }
     s.fields(&[], &unnamed(Inner::Matrix { columns: 2, rows: 3, width: 4 }), &[]);
+    // Paper 1: each kind and size at width 2, and the strides of its matrices.
+    for make in made {
+        s.fields(&[], &unnamed(make(FLOAT, HALF.1)), &["kind", "size"]);
+    }
+    let matrix = |rows| unnamed(Inner::Matrix { columns: 2, rows, width: HALF.1 });
+    s.fields(&[], &matrix(3), &[]);
+    s.group("rows of a matrix of width 2 that is a member".into());
+    for rows in 2..=4 {
+        s.sheet(&[matrix(rows), unnamed(structure(&[0]))], Expect::Domain);
+    }
+    s.group("a scalar of width 2 where no capability is available".into());
+    for (kind, width) in [HALF, (SINT, 2), (UINT, 2)] {
+        let scalar = unnamed(Inner::Scalar { kind, width });
+        s.sheet(&[Record::Available(Vec::new()), scalar], Expect::Domain);
+    }
     s.fields(&[], &unnamed(Inner::Sampler { comparison: 0 }), &[]);
     // The access in each space.
     for space in FUNCTION..=PUSH_CONSTANT {
@@ -315,6 +330,11 @@ fn constants(s: &mut Sweep) {
             };
             s.raw(&[], 64, &[&[form][..], &vec![0; bytes]].concat(), expect);
         }
+    }
+    // Paper 1: "literals keep their forms".
+    s.group("form of a literal of two bytes".into());
+    for form in 5..=8 {
+        s.raw(&[], 64, &[form, 0, 0], Expect::Refused(10));
     }
     s.fields(&[], &Record::Constant(Constant::Literal(Literal::Bool(0))), &[]);
     s.fields(&[literal(1)], &Record::Constant(Constant::Splat { size: 2, value: 0 }), &[]);

@@ -38,6 +38,15 @@ enum Key {
     Entry(u16),
 }
 
+/// The scalars to draw from; those of a paper more often than document 01's.
+fn scalars(papers: u8) -> Vec<(u8, u8)> {
+    let mut all = SCALARS.to_vec();
+    if papers >= 1 {
+        all.extend([HALF; 4]);
+    }
+    all
+}
+
 /// A valid sheet while it grows.
 struct Builder<'a> {
     random: &'a mut Random,
@@ -76,7 +85,7 @@ impl Builder<'_> {
             5 => Some(Vec::new()),
             6..=7 => {
                 let mut list = Vec::new();
-                for c in CAPABILITIES {
+                for c in capabilities(self.random.papers) {
                     if self.random.chance(9, 10) {
                         list.push(c);
                     }
@@ -84,7 +93,7 @@ impl Builder<'_> {
                 list.push(self.random.next() as u32);
                 Some(list)
             }
-            _ => Some(CAPABILITIES.to_vec()),
+            _ => Some(capabilities(self.random.papers)),
         };
         if let Some(list) = list {
             self.add(Record::Available(list));
@@ -118,7 +127,8 @@ impl Builder<'_> {
         if self.random.chance(1, 2) {
             (FLOAT, 4)
         } else {
-            self.random.pick(&SCALARS)
+            let scalars = scalars(self.random.papers);
+            self.random.pick(&scalars)
         }
     }
 
@@ -141,7 +151,10 @@ impl Builder<'_> {
             (4..=5, _) => Inner::Matrix {
                 columns: size,
                 rows: 2 + self.random.below(3) as u8,
-                width: self.random.pick(&[4, 4, 8]),
+                width: self.random.pick(match self.random.papers {
+                    0 => &[4, 4, 8],
+                    _ => &[4, 4, 8, 2],
+                }),
             },
             (6, _) => Inner::Atomic { kind, width },
             (7, Some(base)) => Inner::Pointer { base, space, access },
@@ -235,7 +248,7 @@ impl Builder<'_> {
         match self.random.below(10) {
             0 | 1 => {
                 let bits = self.random.pick(&F32) as u64;
-                let low = self.random.pick(&[0, 1, self.random.0 & 0xffff_ffff]);
+                let low = self.random.pick(&[0, 1, self.random.state & 0xffff_ffff]);
                 // The same patterns, stretched to 64 bits.
                 let high = bits & 0x8000_0000 | (bits & 0x7fff_ffff) >> 3;
                 let filled = if bits & 0x7f80_0000 == 0x7f80_0000 { 0x7000_0000 } else { 0 };

@@ -7,10 +7,20 @@ use super::*;
 pub(super) const TAGS: [u8; 21] =
     [1, 2, 16, 17, 18, 19, 20, 21, 22, 23, 24, 25, 26, 27, 28, 64, 65, 66, 67, 68, 96];
 
-/// "Widths in bytes: integers 1, 2, 4, 8; Float and matrices 4, 8; Bool 1."
-const WIDTHS: [(u8, &[u8]); 4] =
-    [(SINT, &[1, 2, 4, 8]), (UINT, &[1, 2, 4, 8]), (FLOAT, &[4, 8]), (BOOL, &[1])];
-const MATRIX_WIDTHS: &[u8] = &[4, 8];
+/// "Widths in bytes: integers 1, 2, 4, 8; Float and matrices 4, 8; Bool 1." Paper 1:
+/// "Float and matrix width 2 become allowed values in types".
+fn float_widths(papers: u8) -> &'static [u8] {
+    match papers {
+        0 => &[4, 8],
+        _ => &[2, 4, 8],
+    }
+}
+
+fn widths(papers: u8) -> [(u8, &'static [u8]); 4] {
+    let integers = &[1, 2, 4, 8];
+    [(SINT, integers), (UINT, integers), (FLOAT, float_widths(papers)), (BOOL, &[1])]
+}
+
 /// "Vector sizes 2 to 4", and "0 for none".
 const SIZES: &[u8] = &[2, 3, 4];
 const SIZES_OR_NONE: &[u8] = &[0, 2, 3, 4];
@@ -32,10 +42,11 @@ fn field<'a>(what: &'static str, byte: &'a mut u8, values: &[u8]) -> Field<'a> {
     Field { what, byte, values: values.to_vec() }
 }
 
-fn scalar<'a>(kind: &'a mut u8, width: &'a mut u8) -> [Field<'a>; 2] {
-    let kinds = WIDTHS.iter().filter(|(_, widths)| widths.contains(width)).map(|w| w.0);
+fn scalar<'a>(kind: &'a mut u8, width: &'a mut u8, papers: u8) -> [Field<'a>; 2] {
+    let all = widths(papers);
+    let kinds = all.iter().filter(|(_, widths)| widths.contains(width)).map(|w| w.0);
     let kinds = kinds.collect::<Vec<u8>>();
-    let widths = WIDTHS.iter().find(|w| w.0 == *kind).map_or(&[] as &[u8], |w| w.1);
+    let widths = all.iter().find(|w| w.0 == *kind).map_or(&[] as &[u8], |w| w.1);
     [field("kind", kind, &kinds), field("width", width, widths)]
 }
 
@@ -59,27 +70,27 @@ fn image<'a>(class: &'a mut u8, first: &'a mut u8, second: &'a mut u8) -> [Field
 }
 
 /// The fields of one byte of a record whose values all fit, but for its tag, names,
-/// counts and a literal's form.
-pub(super) fn small_fields(record: &mut Record) -> Vec<Field<'_>> {
+/// counts and a literal's form, with the values that they may have up to a paper.
+pub(super) fn small_fields(record: &mut Record, papers: u8) -> Vec<Field<'_>> {
     match record {
         Record::Type(t) => match &mut t.inner {
             Inner::Scalar { kind, width } | Inner::Atomic { kind, width } => {
-                scalar(kind, width).into()
+                scalar(kind, width, papers).into()
             }
             Inner::Vector { size, kind, width } => {
                 let mut fields = vec![field("size", size, SIZES)];
-                fields.extend(scalar(kind, width));
+                fields.extend(scalar(kind, width, papers));
                 fields
             }
             Inner::Matrix { columns, rows, width } => vec![
                 field("columns", columns, SIZES),
                 field("rows", rows, SIZES),
-                field("width", width, MATRIX_WIDTHS),
+                field("width", width, float_widths(papers)),
             ],
             Inner::Pointer { space: s, access, .. } => space(s, access).into(),
             Inner::ValuePointer { size, kind, width, space: s, access } => {
                 let mut fields = vec![field("size", size, SIZES_OR_NONE)];
-                fields.extend(scalar(kind, width));
+                fields.extend(scalar(kind, width, papers));
                 fields.extend(space(s, access));
                 fields
             }

@@ -33,6 +33,11 @@ impl Second {
         }
         let record = match decode(tag, body) {
             Ok(record) => record,
+            Err(Misfit::LiteralForm)
+                if body[0] == 5 && body.len() == 3 && self.has(Fault::HalfLiteral) =>
+            {
+                Record::Constant(Constant::Literal(Literal::F32(0)))
+            }
             Err(Misfit::LiteralForm) if !self.has(Fault::FormAsLength) => return refusal(10),
             Err(_) => return refusal(8),
         };
@@ -126,8 +131,17 @@ impl Second {
             SINT | UINT => {
                 matches!(width, 1 | 2 | 4 | 8) || width == 16 && self.has(Fault::IntegerWidth16)
             }
-            FLOAT => float_fits(width) || width == 16 && self.has(Fault::FloatWidth16),
-            BOOL => width == 1 || width == 0 && self.has(Fault::BoolWidth0),
+            FLOAT => match width {
+                1 => self.has(Fault::FloatWidth1),
+                2 => !self.has(Fault::HalfRefused),
+                16 => self.has(Fault::FloatWidth16),
+                _ => float_fits(width),
+            },
+            BOOL => match width {
+                0 => self.has(Fault::BoolWidth0),
+                2 => self.has(Fault::BoolWidth2),
+                _ => width == 1,
+            },
             _ => false,
         }
     }
@@ -158,8 +172,12 @@ impl Second {
             }
             Inner::Vector { size, kind, width } => size_fits(size) && self.scalar_fits(kind, width),
             Inner::Matrix { columns, rows, width } => {
-                let wide = width == 16 && self.has(Fault::MatrixWidth16);
-                size_fits(columns) && size_fits(rows) && (float_fits(width) || wide)
+                let wide = match width {
+                    2 => !self.has(Fault::HalfMatrixRefused),
+                    16 => self.has(Fault::MatrixWidth16),
+                    _ => float_fits(width),
+                };
+                size_fits(columns) && size_fits(rows) && wide
             }
             Inner::Pointer { space, access, .. } => space_fits(space, access),
             Inner::ValuePointer { size, kind, width, space, access } => {
@@ -186,7 +204,7 @@ impl Second {
 }
 
 fn float_fits(width: u8) -> bool {
-    matches!(width, 4 | 8)
+    matches!(width, 2 | 4 | 8)
 }
 
 fn size_fits(size: u8) -> bool {
@@ -263,6 +281,9 @@ impl Second {
         match *self.resolved(value) {
             Constant::Literal(literal) => Some(literal_scalar(literal)),
             Constant::Zero(ty) => match *self.inner(ty) {
+                Inner::Scalar { width: 2, kind: FLOAT } if self.has(Fault::HalfSplatRefused) => {
+                    None
+                }
                 Inner::Scalar { kind, width } => Some((kind, width)),
                 Inner::Atomic { kind, width } if self.has(Fault::SplatOfAtomic) => {
                     Some((kind, width))

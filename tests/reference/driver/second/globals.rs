@@ -59,6 +59,9 @@ impl Second {
     }
 
     pub(super) fn write_global(&mut self, g: &Global) {
+        if g.space == STORAGE && self.inner(g.ty).is_half() && self.has(Fault::HalfStorage) {
+            self.use_capability(capability::STORAGE_BUFFER_16BIT_ACCESS);
+        }
         let class = self.class_of(g.space);
         if self.has(Fault::GlobalIdAfterPointer) && !self.needs_wrapper(g) {
             self.find(Shape::Pointer { base: g.ty, class });

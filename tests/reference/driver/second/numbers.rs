@@ -42,6 +42,7 @@ pub mod decoration {
 }
 
 pub mod capability {
+    pub const FLOAT16: u32 = 9;
     pub const FLOAT64: u32 = 10;
     pub const INT64: u32 = 11;
     pub const INT16: u32 = 22;
@@ -51,6 +52,7 @@ pub mod capability {
     pub const IMAGE_1D: u32 = 44;
     pub const SAMPLED_CUBE_ARRAY: u32 = 45;
     pub const STORAGE_IMAGE_EXTENDED_FORMATS: u32 = 49;
+    pub const STORAGE_BUFFER_16BIT_ACCESS: u32 = 4433; // only for a fault
     pub const RAY_QUERY: u32 = 4472;
 }
 

@@ -154,7 +154,11 @@ impl Second {
         match shape {
             Shape::Scalar { kind, width } => self.declare_scalar(kind, width, id),
             Shape::Vector { size, kind, width } => {
+                let used = self.capabilities.clone();
                 let scalar = self.find(Shape::Scalar { kind, width });
+                if (kind, width) == HALF && self.has(Fault::Float16OfEntriesAlone) {
+                    self.capabilities = used;
+                }
                 self.declare(op::TYPE_VECTOR, &[id, scalar, size as u64]);
             }
             Shape::Matrix { columns, rows, width } => {
@@ -173,7 +177,12 @@ impl Second {
                 self.declare(op::TYPE_POINTER, &[id, class as u64, value]);
             }
             Shape::Image { kind, dim, depth, arrayed, multi, sampled, format } => {
-                let kind = self.find(Shape::Scalar { kind, width: 4 });
+                // The specification's Rgba16f, Rg16f and R16f.
+                let width = match format {
+                    2 | 7 | 9 if self.has(Fault::HalfSampled) => 2,
+                    _ => 4,
+                };
+                let kind = self.find(Shape::Scalar { kind, width });
                 self.declare(
                     op::TYPE_IMAGE,
                     &[
@@ -222,6 +231,8 @@ impl Second {
             (SINT | UINT, 8) if !self.has(Fault::Int64Missing) => {
                 self.use_capability(capability::INT64)
             }
+            (FLOAT, 2) if !self.has(Fault::Float16Missing) => self.use_float16(),
+            (FLOAT, 4) if self.has(Fault::Float16AtWidth4) => self.use_float16(),
             (FLOAT, 8) => self.use_capability(capability::FLOAT64),
             _ => {}
         }
@@ -231,6 +242,16 @@ impl Second {
             FLOAT => self.declare(op::TYPE_FLOAT, &[id, bits]),
             _ => self.declare(op::TYPE_BOOL, &[id]),
         }
+    }
+
+    fn use_float16(&mut self) {
+        if self.has(Fault::Float16First) && !self.capabilities.contains(&capability::FLOAT16) {
+            self.capabilities.insert(0, capability::FLOAT16);
+        }
+        self.use_capability(match self.has(Fault::Float16AsFloat64) {
+            true => capability::FLOAT64,
+            false => capability::FLOAT16,
+        });
     }
 
     /// An Array, Struct or BindingArray: always an id of its own.
@@ -330,7 +351,10 @@ impl Second {
                 2 => 2,
                 _ => 4,
             };
-            let stride = [units * width as u64];
+            let stride = match width {
+                2 if self.has(Fault::HalfStride) => [units * 4],
+                _ => [units * width as u64],
+            };
             let early = self.has(Fault::StrideBeforeColMajor);
             if early {
                 self.decorate_member(id, index, decoration::MATRIX_STRIDE, &stride);
@@ -374,10 +398,14 @@ impl Second {
             if wanted.iter().take(first).any(|c| !list.contains(c)) {
                 return refusal(14);
             }
-            let scalars = [capability::INT8, capability::INT16, capability::INT64];
-            if self.has(Fault::ScalarsChecked)
-                && self.capabilities.iter().any(|c| scalars.contains(c) && !list.contains(c))
-            {
+            let asked: &[u32] = match self.fault {
+                Some(Fault::ScalarsChecked) => {
+                    &[capability::INT8, capability::INT16, capability::INT64]
+                }
+                Some(Fault::Float16Checked) => &[capability::FLOAT16],
+                _ => &[],
+            };
+            if self.capabilities.iter().any(|c| asked.contains(c) && !list.contains(c)) {
                 return refusal(14);
             }
         }

@@ -10,7 +10,10 @@ returns-2 : tie.Need-returns-2
 returns-2 c = simp (c .match .keys2) cc
 
 returns-3 : tie.Need-returns-3
-returns-3 c = simp (ne-eqb _ _ (c .match .rest .0 .1), ne-eqb _ _ (c .match .rest .1)) cc
+returns-3 c = simp (c .match .keys3) cc
+
+returns-4 : tie.Need-returns-4
+returns-4 c = simp (ne-eqb _ _ (c .match .rest .0 .0 .1), ne-eqb _ _ (c .match .rest .0 .1), ne-eqb _ _ (c .match .rest .1)) cc
 
 pub float-width-spec : {M : Type 1} → statement M
-float-width-spec = tie.close (tie.spec returns returns-2 returns-3)
+float-width-spec = tie.close (tie.spec returns returns-2 returns-3 returns-4)
