@@ -1,10 +1,10 @@
 #!/usr/bin/env python3
-"""Write sheets.txt: damaged sheets with the refusal that document 01 gives, and
+"""Write sheets.txt: damaged sheets with the refusal that documents 01 and 02 give, and
 sheets right beside them that fit.
 
     make.py DRIVER > sheets.txt
 
-Every number below was read off document 01. DRIVER is the program that
+Every number below was read off these documents. DRIVER is the program that
 tests/reference/run builds; it only supplies the published Rust's words for the
 sheets that fit.
 """
@@ -344,7 +344,8 @@ row("formats that need nothing", sheet(available(), image(D2, 0, STORED, 17, 1),
 row("a Cube that is not arrayed", sheet(available(), image(CUBE, 0, SAMPLED, FLOAT, 0)), FITS)
 row("scalar capabilities are not checked", sheet(available(), scalar(SINT, 8), scalar(FLOAT, 8)), FITS)
 row("nor is Float16", sheet(available(), matrix(2, 3, 2)), FITS)
-row("Float16 where it is first used, once", sheet(scalar(SINT, 1), vector(2, FLOAT, 2), scalar(FLOAT, 8), scalar(FLOAT, 2)), FITS)
+row("Float16 where it is first used, once",
+    sheet(scalar(SINT, 1), vector(2, FLOAT, 2), scalar(FLOAT, 8), scalar(FLOAT, 2)), FITS)
 row("format R16Float beside a Float 2: its sampled type has width 4",
     sheet(scalar(FLOAT, 2), image(D2, 0, STORED, 6, LOAD)), FITS)
 
@@ -412,9 +413,10 @@ def main(driver):
     words = dict(line.split(" | ") for line in answers)
     damaged = sum(isinstance(expected, int) for _, _, expected, _ in ROWS)
     print(f"# {damaged} damaged sheets and {len(ROWS) - damaged} that fit beside them.")
-    print("# Made by tests/damaged/make.py: the numbers are read off document 01, the words")
-    print("# are the published Rust's. Lines: SHEET [buffer=N | wrapped=K] | ANSWER; lent are")
-    print("# 16,384 words where no buffer is named. The first sheet has no byte.")
+    print("# Made by tests/damaged/make.py: the numbers are read off documents 01 and 02, the")
+    print("# words are the published Rust's, with the Float16 line of paper 1 for 16-bit floats.")
+    print("# Lines: SHEET [buffer=N | wrapped=K] | ANSWER; lent are 16,384 words where no buffer is")
+    print("# named. The first sheet has no byte.")
     for reason, data, expected, question in ROWS:
         if expected == FITS:
             answer = words[data.hex()]

@@ -222,6 +222,8 @@ struct Tally {
     reached: Reached,
     sheets: usize,
     modules: usize,
+    /// Modules of sheets with 16-bit floats, of whose words the Rust's lack one line.
+    halves: usize,
     words: usize,
     largest: usize,
     missing: usize,
@@ -236,6 +238,7 @@ impl Tally {
             reached: Reached::default(),
             sheets: 0,
             modules: 0,
+            halves: 0,
             words: 0,
             largest: 0,
             missing: 0,
@@ -250,6 +253,7 @@ impl Tally {
         match &one.expected {
             Expected::Module { words, .. } => {
                 self.modules += 1;
+                self.halves += has_halves(&one.sheet) as usize;
                 self.words += words.len();
                 self.largest = self.largest.max(words.len());
                 self.reached.accepted(&one.sheet);
@@ -291,12 +295,13 @@ impl Tally {
     fn report(&self, seed: u64) -> bool {
         println!(
             "{} sheets from seed {seed:#018x}; held against the Rust: {} modules of {} words, the \
-             largest of {}, and {} missing capabilities; {} refused by the second reading's \
-             opinion alone; {} differences",
+             largest of {}, {} of them but for Float16, and {} missing capabilities; {} refused by \
+             the second reading's opinion alone; {} differences",
             self.sheets,
             self.modules,
             self.words,
             self.largest,
+            self.halves,
             self.missing,
             self.opinions,
             self.differences,
