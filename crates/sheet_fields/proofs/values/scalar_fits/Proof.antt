@@ -1,4 +1,5 @@
 -- An arm for each kind: with its number put in, the definition's choice computes to that arm.
+use mathlib.Core.Path.{refl}
 use native.Mathlib.Omega.{arith}
 use borrow.Author.Tests.{lt-leb, ne-eqb}
 use borrow.Author.Needs.{needs}
@@ -15,4 +16,4 @@ unfolding scalarFits
 scalar-fits-spec =
     tie.close
     (tie.spec (λ c κs. search needs) (λ c κs. search needs) (λ c κs. search needs) (λ c. simp (c .before .match .keys1) cc)
-    (λ c. simp (c .before .match .keys2) cc) (λ c. simp (c .before .match .keys3) cc) (λ c. simp (c .match .keys4) cc) returns-5)
+    (λ c. simp (c .before .match .keys2) cc) (λ c. simp (c .before .match .keys3) cc) (λ c. simp (c .match .keys4) refl) returns-5)
