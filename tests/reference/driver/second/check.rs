@@ -131,15 +131,13 @@ impl Second {
             SINT | UINT => {
                 matches!(width, 1 | 2 | 4 | 8) || width == 16 && self.has(Fault::IntegerWidth16)
             }
-            FLOAT => match width {
-                1 => self.has(Fault::FloatWidth1),
-                2 => !self.has(Fault::HalfRefused),
-                16 => self.has(Fault::FloatWidth16),
+            FLOAT => match (self.fault, width) {
+                (Some(Fault::FloatWidth1), 1) | (Some(Fault::FloatWidth16), 16) => true,
+                (Some(Fault::HalfRefused), 2) => false,
                 _ => float_fits(width),
             },
-            BOOL => match width {
-                0 => self.has(Fault::BoolWidth0),
-                2 => self.has(Fault::BoolWidth2),
+            BOOL => match (self.fault, width) {
+                (Some(Fault::BoolWidth0), 0) | (Some(Fault::BoolWidth2), 2) => true,
                 _ => width == 1,
             },
             _ => false,
@@ -172,12 +170,12 @@ impl Second {
             }
             Inner::Vector { size, kind, width } => size_fits(size) && self.scalar_fits(kind, width),
             Inner::Matrix { columns, rows, width } => {
-                let wide = match width {
-                    2 => !self.has(Fault::HalfMatrixRefused),
-                    16 => self.has(Fault::MatrixWidth16),
+                let width_fits = match (self.fault, width) {
+                    (Some(Fault::MatrixWidth16), 16) => true,
+                    (Some(Fault::HalfMatrixRefused), 2) => false,
                     _ => float_fits(width),
                 };
-                size_fits(columns) && size_fits(rows) && wide
+                size_fits(columns) && size_fits(rows) && width_fits
             }
             Inner::Pointer { space, access, .. } => space_fits(space, access),
             Inner::ValuePointer { size, kind, width, space, access } => {
