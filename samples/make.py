@@ -28,16 +28,16 @@ def module(bound, *instructions):
 
 # Opcodes and decorations by the specification's names.
 NAME, MEMBER_NAME, CAPABILITY = 5, 6, 17
-TYPE_BOOL, TYPE_INT, TYPE_FLOAT, TYPE_VECTOR, TYPE_MATRIX = 20, 21, 22, 23, 24
+TYPE_VOID, TYPE_BOOL, TYPE_INT, TYPE_FLOAT, TYPE_VECTOR, TYPE_MATRIX = 19, 20, 21, 22, 23, 24
 TYPE_IMAGE, TYPE_SAMPLER, TYPE_ARRAY, TYPE_RUNTIME_ARRAY, TYPE_STRUCT = 25, 26, 28, 29, 30
-TYPE_POINTER, VARIABLE, DECORATE, MEMBER_DECORATE = 32, 59, 71, 72
+TYPE_POINTER, TYPE_FUNCTION, VARIABLE, DECORATE, MEMBER_DECORATE = 32, 33, 59, 71, 72
 TRUE, FALSE, CONSTANT, COMPOSITE, NULL = 41, 42, 43, 44, 46
 TYPE_RAY_QUERY, TYPE_ACCELERATION_STRUCTURE = 4472, 5341
 BLOCK, COL_MAJOR, ARRAY_STRIDE, MATRIX_STRIDE = 2, 5, 6, 7
 NON_WRITABLE, NON_READABLE, BINDING, DESCRIPTOR_SET, OFFSET = 24, 25, 33, 34, 35
 # Storage classes.
 UNIFORM_CONSTANT_CLASS, UNIFORM_CLASS, WORKGROUP_CLASS, PRIVATE_CLASS = 0, 2, 4, 6
-PUSH_CONSTANT_CLASS, STORAGE_BUFFER_CLASS = 9, 12
+FUNCTION_CLASS, PUSH_CONSTANT_CLASS, STORAGE_BUFFER_CLASS = 7, 9, 12
 
 FLOAT_1 = (TYPE_FLOAT, 1, 32)
 FLOAT_2 = (TYPE_FLOAT, 2, 32)
@@ -323,6 +323,61 @@ SAMPLES["half"] = (
         (TYPE_STRUCT, 9, 5),
         (TYPE_POINTER, 10, UNIFORM_CLASS, 9),
         (VARIABLE, 10, 8, UNIFORM_CLASS),
+    ),
+)
+
+# Paper 2: the types of small library routines that a card calls. Void is declared by the
+# first that returns it; what has equal ids is one function type, by whatever entries.
+SAMPLES["routines"] = (
+    sheet(
+        scalar(FLOAT, 4, "w"),  # 0: 1
+        atomic(FLOAT, 4),  # 1: 1 again
+        vector(2, FLOAT, 4, "p"),  # 2: 2
+        struct(16, member(2, 0, "p"), member(0, 8, "w"), name="L"),  # 3: 3
+        pointer(3, FUNCTION),  # 4: 4
+        sampler(),  # 5: 5
+        function(0),  # 6
+        function(VOID, 4),  # void 7, then 8
+        function(0, 2, 0),  # 9
+        function(1, 2, 1),  # 9 again: the atomic has the scalar's id
+        function(VOID, 3, 5),  # 10, void 7 again
+        function(VOID, 4),  # 8 again
+        f32(ONE),  # 0: 11
+        splat(2, 0),  # 1: 12, its type 2 again
+        zero(3),  # 2: 13
+        global_(3, UNIFORM, at=(0, 1), name="l"),  # 14, its wrapper 15, its pointer 16
+        flags=DEBUG,
+    ),
+    module(
+        17,
+        (NAME, 1, ord("w")),
+        (NAME, 2, ord("p")),
+        (MEMBER_NAME, 3, 0, ord("p")),
+        (MEMBER_NAME, 3, 1, ord("w")),
+        (NAME, 3, ord("L")),
+        (NAME, 14, ord("l")),
+        (MEMBER_DECORATE, 3, 0, OFFSET, 0),
+        (MEMBER_DECORATE, 3, 1, OFFSET, 8),
+        (DECORATE, 14, DESCRIPTOR_SET, 0),
+        (DECORATE, 14, BINDING, 1),
+        (DECORATE, 15, BLOCK),
+        (MEMBER_DECORATE, 15, 0, OFFSET, 0),
+        FLOAT_1,
+        (TYPE_VECTOR, 2, 1, 2),
+        (TYPE_STRUCT, 3, 2, 1),
+        (TYPE_POINTER, 4, FUNCTION_CLASS, 3),
+        (TYPE_SAMPLER, 5),
+        (TYPE_FUNCTION, 6, 1),
+        (TYPE_VOID, 7),
+        (TYPE_FUNCTION, 8, 7, 4),
+        (TYPE_FUNCTION, 9, 1, 2, 1),
+        (TYPE_FUNCTION, 10, 7, 3, 5),
+        (CONSTANT, 1, 11, ONE),
+        (COMPOSITE, 2, 12, 11, 11),
+        (NULL, 3, 13),
+        (TYPE_STRUCT, 15, 3),
+        (TYPE_POINTER, 16, UNIFORM_CLASS, 15),
+        (VARIABLE, 16, 14, UNIFORM_CLASS),
     ),
 )
 

@@ -160,12 +160,30 @@ fn mix_global(n: usize, name: &dyn Fn(&str, usize) -> String) -> Record {
 
 /// Types, constants and globals of every family, with names of one length.
 pub fn mix(types: usize, constants: usize, globals: usize, length: usize) -> Vec<u8> {
+    mix_with(&[], types, constants, globals, length)
+}
+
+/// The same with function records.
+fn mix_with(
+    functions: &[Record],
+    types: usize,
+    constants: usize,
+    globals: usize,
+    length: usize,
+) -> Vec<u8> {
     assert!(types >= FIRST);
     let name = |what: &str, n: usize| format!("{:_<length$}", format!("{n}_{what}"));
     let mut records: Vec<Record> = (0..types).map(|n| mix_type(n, &name)).collect();
+    records.extend(functions.iter().cloned());
     records.extend((0..constants).map(mix_constant));
     records.extend((0..globals).map(|n| mix_global(n, &name)));
     Sheet { start: 0, flags: DEBUG | NATIVE_ZERO, records }.encode()
+}
+
+/// A mix with all that a sheet may have, its names as long as they can be.
+fn full_with(functions: &[Record]) -> Vec<u8> {
+    let made = |length| mix_with(functions, 256, 256, 64, length);
+    (12..200).map(made).take_while(|sheet| sheet.len() <= MAX_SHEET).last().expect("room")
 }
 
 /// How long the names of a full mix can be.
@@ -174,6 +192,14 @@ pub fn full_length() -> usize {
         .take_while(|&length| mix(256, 256, 64, length).len() <= MAX_SHEET)
         .last()
         .expect("room")
+}
+
+/// One of up to 64 function records over 256 types, of as many parameters as there may be: the
+/// last type at every place but one, where each has a type of its own.
+fn function_but_for(place: usize, n: usize) -> Record {
+    let mut parameters = vec![255; MAX_PARAMETERS];
+    parameters[place] = (MAX_TYPES - MAX_FUNCTIONS + n) as u16;
+    Record::Function(FunctionType { return_type: 254, parameters })
 }
 
 /// The factor of the hash by which types are told apart, `crates/sheet/src/hash.rt`: a hash is the
@@ -379,6 +405,19 @@ pub fn worst() -> Vec<(&'static str, Vec<u8>)> {
         unnamed(Inner::ValuePointer { size, kind, width, space, access })
     };
     add("256 value pointers, no two alike", fill(vec![], 256, by_value));
+    // Function types are searched in order, and their types are the last of 256 to be found.
+    let pointers = || fill(vec![], 256, by_value);
+    for (what, place) in [
+        ("64 function types of 16 parameters, equal but for the last", 15),
+        ("64 function types of 16 parameters, equal but for the last but one", 14),
+        ("64 function types of 16 parameters, equal but for the first", 0),
+    ] {
+        add(what, fill(pointers(), MAX_FUNCTIONS, |n| function_but_for(place, n)));
+    }
+    add(
+        "64 equal function types of 16 parameters",
+        fill(pointers(), MAX_FUNCTIONS, |_| function_but_for(15, 0)),
+    );
     let image = |n: usize| {
         let (first, second) = ((n / 2 % 40) as u8, (n / 80) as u8);
         let dim = if n % 2 == 0 { D1 } else { 2 };
@@ -496,6 +535,8 @@ pub fn worst() -> Vec<(&'static str, Vec<u8>)> {
     out.push(("a byte over the fifth class of scratch", of_length(4_097)));
     let length = full_length();
     out.push(("the full sheet", mix(256, 256, 64, length)));
+    let functions: Vec<Record> = (0..MAX_FUNCTIONS).map(|n| function_but_for(15, n)).collect();
+    out.push(("the full sheet with 64 function records of 16 parameters", full_with(&functions)));
     out
 }
 
@@ -528,5 +569,12 @@ pub fn refused() -> Vec<(&'static str, Vec<u8>, u64)> {
         ("256 types, the last as the one before", repeated, 12),
         ("256 types of one hash, the last as the first", one_hash, 12),
         ("3,481 capabilities, the last image's missing", sheet(records), 14),
+        ("the full sheet with a 65th function record", one_too_many(), 7),
     ]
+}
+
+fn one_too_many() -> Vec<u8> {
+    let mut functions: Vec<Record> = (0..MAX_FUNCTIONS).map(|n| function_but_for(15, n)).collect();
+    functions.push(function_but_for(0, 0));
+    full_with(&functions)
 }

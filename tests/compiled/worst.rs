@@ -2,6 +2,7 @@
 
 const FLOAT: [u8; 2] = [2, 4];
 const NO_INIT: u16 = 65_535;
+const VOID: u16 = 65_535;
 
 /// A sheet in the making.
 struct Sheet(Vec<u8>);
@@ -33,6 +34,12 @@ impl Sheet {
 
     fn zero(&mut self, ty: u16) {
         self.record(66, &[&ty.to_be_bytes()]);
+    }
+
+    fn function(&mut self, returned: u16, parameters: &[u16]) {
+        let count = parameters.len() as u8;
+        let parameters: Vec<u8> = parameters.iter().flat_map(|p| p.to_be_bytes()).collect();
+        self.record(48, &[&returned.to_be_bytes(), &[count], &parameters]);
     }
 
     fn float(&mut self, bits: u32) {
@@ -307,6 +314,30 @@ fn value_pointers() -> Sheet {
     sheet
 }
 
+/// Function types of 16 parameters, each but one the last of 256 types that are found in order;
+/// so many constants behind them.
+fn function_types(place: usize, constants: u32) -> Sheet {
+    let mut sheet = Sheet::new(0);
+    many_types(&mut sheet, 256);
+    for n in 0..64 {
+        let mut parameters = [255; 16];
+        parameters[place] = 192 + n;
+        sheet.function(254, &parameters);
+    }
+    for bits in 0..constants {
+        sheet.float(bits);
+    }
+    sheet
+}
+
+fn function_types_without_types() -> Sheet {
+    let mut sheet = Sheet::new(0);
+    for _ in 0..64 {
+        sheet.function(VOID, &[]);
+    }
+    sheet
+}
+
 /// Storage images that need two capabilities each, of which some differ in their access alone.
 /// So many other numbers stand before those that are needed.
 fn images(available: usize) -> Sheet {
@@ -427,6 +458,10 @@ pub fn sheets() -> Vec<(&'static str, Vec<u8>)> {
         ("256 matrices of 18 shapes, named", matrices()),
         ("255 pointers, each to the one before", pointers()),
         ("256 value pointers", value_pointers()),
+        ("64 function types of 16 parameters, alike but for the last", function_types(15, 0)),
+        ("64 such, alike but for the last but one", function_types(14, 0)),
+        ("64 such, alike but for the first, and 256 literals", function_types(0, 256)),
+        ("64 function types that return void", function_types_without_types()),
         ("256 storage images", images(0)),
         ("256 storage images behind 3,500 other capabilities", images(3_500)),
         ("256 literals", literals()),

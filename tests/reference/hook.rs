@@ -1,5 +1,9 @@
-// Included at the end of the copy of writer.rs, since the functions that document
-// 01 names as the reference are private there. It calls them and adds nothing.
+// Included at the end of the copy of writer.rs, since the functions that documents 01
+// and 02 name as the reference are private there. It calls them and adds nothing but
+// void where paper 2 of document 02 puts it.
+
+/// In place of void's id until a record returns void: ids begin at 1.
+const NO_VOID: Word = 0;
 
 impl Writer {
     /// "On an empty `Writer`, counter at start": no capability is in use yet.
@@ -7,6 +11,7 @@ impl Writer {
         let mut writer = Writer::new(options).expect("version 1");
         writer.capabilities_used.clear();
         writer.id_gen = IdGenerator(start);
+        writer.void_type = NO_VOID;
         writer
     }
 
@@ -16,6 +21,32 @@ impl Writer {
         handle: Handle<crate::Type>,
     ) -> Result<Word, Error> {
         self.write_type_declaration_arena(&ir_module.types, handle)
+    }
+
+    /// Return type, none for void, and parameters by the ids of their entries.
+    pub fn reference_function(
+        &mut self,
+        return_type: Option<Handle<crate::Type>>,
+        parameters: &[Handle<crate::Type>],
+    ) -> Word {
+        let return_type_id = match return_type {
+            Some(handle) => self.get_type_id(LookupType::Handle(handle)),
+            None => self.reference_void(),
+        };
+        let parameter_type_ids =
+            parameters.iter().map(|&handle| self.get_type_id(LookupType::Handle(handle))).collect();
+        self.get_function_type(LookupFunctionType { parameter_type_ids, return_type_id })
+    }
+
+    /// "Void is declared by the first record that returns it, its id taken before that
+    /// record's, in the test copy too": the Rust takes void's id in `Writer::new` and
+    /// declares it in `write_logical_layout`, which is not called here, with this line.
+    fn reference_void(&mut self) -> Word {
+        if self.void_type == NO_VOID {
+            self.void_type = self.id_gen.next();
+            Instruction::type_void(self.void_type).to_words(&mut self.logical_layout.declarations);
+        }
+        self.void_type
     }
 
     pub fn reference_constant(

@@ -1,4 +1,4 @@
-"""Sheets of document 01, spelt in Python: for the samples and the damaged sheets.
+"""Sheets of documents 01 and 02, spelt in Python: for the samples and the damaged sheets.
 
 Written apart from the driver's own table (driver/sheet.rs), so that a slip in
 either shows when the two meet. Nothing here tests a value: any field can be given
@@ -12,6 +12,7 @@ SAMPLED, DEPTH, STORED = range(3)
 LOAD, STORE = 1, 2
 DEBUG, NATIVE_ZERO = 1, 2
 NO_INIT = 65535
+VOID = 65535
 MAX_SHEET = 16384
 
 
@@ -102,6 +103,12 @@ def ray_query(name=None):
 
 def binding_array(base, size, name=None):
     return record(28, name_of(name) + u16(base) + u32(size))
+
+
+def function(returned, *parameters, count=None):
+    """`returned` and the parameters are types; VOID is returned where nothing is."""
+    count = len(parameters) if count is None else count
+    return record(48, u16(returned) + bytes([count]) + b"".join(map(u16, parameters)))
 
 
 def f64(bits):

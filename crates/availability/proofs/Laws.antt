@@ -1,6 +1,6 @@
 -- The laws of test 14: the loop over the numbers of an Available record, what a record changes, and what is asked of a shape. The
 -- loop keeps that the numbers which are left answer as all do (`Going`): so it is at the start, a number that differs keeps it, one
--- that is equal answers true and the end false. A list in two parts is asked part by part (`parts`), and of what a shape's rules
+-- that is equal answers true and the end false. A list in two parts is asked part by part (`every-both`), and of what a shape's rules
 -- check the flags answer as the definition does (`as-flagged`).
 use Prim.Native.Nat.{ℕ, zero, suc, _+_, _-_, _*_, _≤_, _<_, _/_}
 use mathlib.Core.Path.{_≡_, refl, sym, ap, _∙_}
@@ -23,6 +23,7 @@ use Rattle.definition.specs.Shapes.{shapeOf as definedShape}
 use Rattle.definition.specs.Finding.{extendedFormats, formatCapabilities, dimCapabilities, capabilitiesOf}
 use Rattle.definition.specs.Unfit.{checkedCapabilities, isAvailable, shapeAvailable}
 use Rattle.definition.proofs.Truth.{pick-for}
+use Rattle.records.proofs.Chain.{every-both}
 use Rattle.lookup.specs.declared.VectorSize.{VectorSize}
 use Rattle.lookup.specs.declared.VectorSize.the-variants.{Nothing as One, Of as Many}
 use Rattle.lookup.specs.declared.PointerSpace.{PointerSpace}
@@ -73,7 +74,7 @@ lists n r e = rw e
 -- any other record leaves it
 pub keeps : (n : Seen) (r : Record) → (tagRank (r .tag) ≡ 1 → ⊥) → addRecord n r .available ≡ n .available
 unfolding addRecord add entryOf
-keeps n r h = rw (ne-eqb _ _ h) (pick-for Kept (eqb q 2) _ _ refl (pick-for Kept (eqb q 3) _ _ refl (pick-for Kept (eqb q 4) _ _ refl refl)))
+keeps n r h = rw (ne-eqb _ _ h) (pick-for Kept (eqb q 2) _ _ refl (pick-for Kept (eqb q 3) _ _ refl (pick-for Kept (eqb q 4) _ _ refl (pick-for Kept (eqb q 5) _ _ refl refl))))
   where
     q : ℕ
     q = tagRank (r .tag)
@@ -95,21 +96,12 @@ one-or-none : (a : Available) (x : ℕ) → flagOf a x ≡ every (flagOf a) (asL
 one-or-none a zero = refl
 one-or-none a (suc x) = rw (ne-eqb (suc x) 0 (λ e. omega arith)) (alone (flagOf a) (suc x))
 
--- a test of the numbers of two lists
-parts : (P : ℕ → Bool) (xs ys : List ℕ) → every P (xs ++ ys) ≡ (every P xs && every P ys)
-parts P [] ys = refl
-parts P (x ∷ xs) ys = go (P x) (parts P xs ys)
-  where
-    go : (t : Bool) → every P (xs ++ ys) ≡ (every P xs && every P ys) → (t && every P (xs ++ ys)) ≡ ((t && every P xs) && every P ys)
-    go true e = e
-    go false e = refl
-
 -- of two capabilities the first is asked, then the second
 pub in-turn : (a : Available) (k : Capabilities) (xs : List ℕ) (t : Bool) → asList (k .first) ++ asList (k .second) ≡ xs
     → flagOf a (k .first) ≡ t → (t && flagOf a (k .second)) ≡ every (flagOf a) xs
 in-turn a k xs t e h =
     (λ i. sym h i && one-or-none a (k .second) i) ∙ ap (λ (u : Bool). u && every (flagOf a) (asList (k .second))) (one-or-none a (k .first))
-    ∙ sym (parts (flagOf a) (asList (k .first)) (asList (k .second))) ∙ ap (every (flagOf a)) e
+    ∙ sym (every-both (flagOf a) (asList (k .first)) (asList (k .second))) ∙ ap (every (flagOf a)) e
 
 -- nothing is asked of a value: a scalar's capabilities are used unasked, and a vector and a pointer have none
 pub of-value : (z : VectorSize) (k : Kind) (c : PointerSpace) → [] ≡ checkedCapabilities (valueOf z k c)
@@ -161,7 +153,7 @@ module _ (o : Option (List ℕ)) (a : Available) (f : Flagged o a) where
   as-flagged (matrix c r w) = refl
   as-flagged (pointer b c) = refl
   as-flagged (valuePointer n k c) = refl
-  as-flagged (image k d p y m s x) = parts (flagOf a) (formatCapabilities x) (dimCapabilities d y s) ∙ (λ i. of-format x i && of-dim d y s i) ∙ sym (parts (isAvailable o) (formatCapabilities x) (dimCapabilities d y s))
+  as-flagged (image k d p y m s x) = every-both (flagOf a) (formatCapabilities x) (dimCapabilities d y s) ∙ (λ i. of-format x i && of-dim d y s i) ∙ sym (every-both (isAvailable o) (formatCapabilities x) (dimCapabilities d y s))
   as-flagged sampler = refl
   as-flagged accelerationStructure = one _ (f .ray-query-khr)
   as-flagged rayQuery = one _ (f .ray-query-khr)

@@ -9,7 +9,8 @@ ghost use lib.ListN.{length};
 ghost use Rattle.declarations.specs.Promise.{DeclarePromise, CheckPromise, WrappedPromise};
 ghost use Rattle.declarations.specs.Stages.{Lent, Roomed, Ended, Standing, WrappedAs, Answered, verdictFrom};
 
-// How large a sheet there is scratch for, by class, in bytes, and as many records as so many bytes can hold, or as a sheet may have.
+// How large a sheet there is scratch for, by class, in bytes, and as many records as so many bytes can hold, or as a sheet may have; a
+// function record counts as two.
 const LEAST: usize = 32;
 
 const LEAST_RECORDS: usize = 11;
@@ -28,11 +29,11 @@ const SMALL_RECORDS: usize = 427;
 
 const MIDDLE: usize = 4096;
 
-const MIDDLE_RECORDS: usize = 576;
+const MIDDLE_RECORDS: usize = 704;
 
 const LARGE: usize = 16384;
 
-const LARGE_RECORDS: usize = 576;
+const LARGE_RECORDS: usize = 704;
 
 // The scratch of a class, as `writer` lays it out: so many numbers of tables for each record, and one for each byte behind them for
 // the parts of composites; so many words of sections for each byte.

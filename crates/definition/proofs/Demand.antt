@@ -1,5 +1,6 @@
 -- Demand 3: the instructions of a sound state, with nothing pending, are what the record asks; the reader finds them in the words;
--- and a sheet that is fit comes to such a state.
+-- and a sheet that is fit comes to such a state. What is entered, a shape, a function type or void, is declared once, so the reader
+-- finds it under its id; where the reader finds void, it is entered, and so some record returns it.
 use Prim.Native.Nat.{ℕ, suc, _<_, _≤_}
 use mathlib.Core.Path.{_≡_, refl, sym, ap, _∙_, subst}
 use mathlib.Core.Logic.{_⊎_, inl, inr, _↔_}
@@ -7,28 +8,29 @@ use mathlib.Core.List.{List, [], _∷_, _++_, append-nil, append-assoc, List·Me
 use mathlib.Core.Option.{Option, some, none}
 use mathlib.Core.Bool.{Bool, true, false}
 use native.Mathlib.Omega.{arith}
-use lib.Dec.{T, lit<, leb}
+use borrow.Author.Tests.{eq-eqb, ne-eqb}
+use lib.Dec.{T, lit<, leb, eqb→eq}
 use lib.ListN.{length, getElem?, take, drop}
 use lib.Seq.{take-at, drop-at}
-use Rattle.definition.specs.Choice.{pick}
-use borrow.Author.Tests.{eq-eqb, ne-eqb}
-use Rattle.definition.specs.Numbers.{OpCapability, OpName, OpMemberName, OpDecorate, OpMemberDecorate, OpTypeBool, OpTypeInt, OpTypeFloat, OpTypeVector, OpTypeMatrix, OpTypeImage, OpTypeSampler, OpTypeAccelerationStructureKHR, OpTypeRayQueryKHR}
-use Rattle.definition.specs.Instructions.{Instruction, capability, put}
+use Rattle.definition.specs.Choice.{pick, orElse}
+use Rattle.definition.specs.Numbers.{OpCapability, OpName, OpMemberName, OpDecorate, OpMemberDecorate, OpTypeVoid, OpTypeBool, OpTypeInt, OpTypeFloat, OpTypeVector, OpTypeMatrix, OpTypeImage, OpTypeSampler, OpTypeFunction, OpTypeAccelerationStructureKHR, OpTypeRayQueryKHR}
+use Rattle.definition.specs.Instructions.{Instruction, capability, typeVoid, typeFunction, put}
 use Rattle.definition.specs.Reader.{layoutOf, Module}
-use Rattle.definition.specs.ReadTypes.{resultIs, declarationOf, readScalar, readVector, readType}
-use Rattle.definition.specs.Sheet.{TypeEntry, startOf}
+use Rattle.definition.specs.ReadTypes.{resultIs, declarationOf, readScalar, readVector, readType, voidBy, readVoid, readFunction}
+use Rattle.definition.specs.Sheet.{TypeEntry, Function, startOf}
 use Rattle.definition.specs.Tests.{Judged, refused, fit}
 use Rattle.definition.specs.Shapes.{Kind, Shape, Key, sameKey, shapeOf, inner, rankOf, opcodeOf, typeOf, entry, shape}
 use Rattle.definition.specs.Shapes.{scalar, vector, matrix, pointer, valuePointer, image, sampler, accelerationStructure, rayQuery, bindingArray, bindingPointer}
-use Rattle.definition.specs.State.{State, occurrences, lookup, idOf, boundOf, capabilityInstructions, instructions, moduleWords}
+use Rattle.definition.specs.State.{Composite, composite, function, void, sameComposite, State, occurrences, lookup, idOf, boundOf, capabilityInstructions, instructions, moduleWords, entryId, entryIds}
 use Rattle.definition.specs.Operations.{Progress, judged, Written, unchanged, declaredOf, declare}
-use Rattle.definition.specs.WellDeclared.{times, once, declaresId, Above, NoEqualTypes, plainType, targets, targetOf, marks, needs, listedIn, listedBy, needed, WellDeclared, HasShape, EntriesDeclared, Demand3, writtenOf, Accepted, Demand3OfDeclare}
+use Rattle.definition.specs.WellDeclared.{times, once, declaresId, Above, plainType, EqualTypes, NoEqualTypes, targets, targetOf, marks, needs, listedIn, listedBy, needed, WellDeclared, HasShape, EntriesDeclared, returnId, signatureOf, VoidReturned, FunctionsDeclared, Demand3, writtenOf, Accepted, Demand3OfDeclare}
 use Rattle.definition.proofs.Lists.{same-itself, times-append, times-in, targets-append, upTo-in, upTo-out, lookup-in, lookup-out}
 use Rattle.definition.proofs.Sizes.{W}
 use Rattle.definition.proofs.ByShape.{taken, FitsIn, ReadAs, ReadIn, scalar-by, facts}
 use Rattle.definition.proofs.Inners.{plain-shape}
-use Rattle.definition.proofs.Sound.{taken-range, Sound, Settled, settled-declared, Note, Declaration}
+use Rattle.definition.proofs.Sound.{Sound, Settled, Spelt, Routine, isRoutine, routineOf, routine-result, not-shape, Note, Declaration, settled-declared, taken-range}
 use Rattle.definition.proofs.Types.{HasShapeId, Told}
+use Rattle.definition.proofs.Values.{ResultIs, AreIds, Signed}
 use Rattle.definition.proofs.Records.{fit-sheet}
 use Rattle.definition.proofs.Reading.{Readable, module-read}
 use Rattle.definition.proofs.Capabilities.{small-listed}
@@ -45,6 +47,10 @@ AllQuiet xs = (d : Instruction) → List·Memᴰ d xs → Quiet d
 tail-quiet : (x : Instruction) (xs : List Instruction) → AllQuiet (x ∷ xs) → AllQuiet xs
 unfolding AllQuiet
 tail-quiet x xs q d m = q d (List·Memᴰ·tail m)
+
+all-quiet : (xs : List Instruction) → AllQuiet xs → (d : Instruction) → List·Memᴰ d xs → Quiet d
+unfolding AllQuiet
+all-quiet xs q d m = q d m
 
 head-quiet : (x : Instruction) (xs : List Instruction) → AllQuiet (x ∷ xs) → Quiet x
 unfolding AllQuiet
@@ -117,7 +123,7 @@ module _ (last : ℕ) (d : Instruction) (n : Note last d) where
   note-quiet = record { silent = n .silent; other = other; free = note-free }
     where
       other : T (plainType (d .opcode)) → ⊥
-      other t = rw (ne-eqb (d .opcode) OpTypeBool (note-opcode OpTypeBool (λ t. t)), ne-eqb (d .opcode) OpTypeInt (note-opcode OpTypeInt (λ t. t)), ne-eqb (d .opcode) OpTypeFloat (note-opcode OpTypeFloat (λ t. t)), ne-eqb (d .opcode) OpTypeVector (note-opcode OpTypeVector (λ t. t)), ne-eqb (d .opcode) OpTypeMatrix (note-opcode OpTypeMatrix (λ t. t)), ne-eqb (d .opcode) OpTypeImage (note-opcode OpTypeImage (λ t. t)), ne-eqb (d .opcode) OpTypeSampler (note-opcode OpTypeSampler (λ t. t)), ne-eqb (d .opcode) OpTypeAccelerationStructureKHR (note-opcode OpTypeAccelerationStructureKHR (λ t. t)), ne-eqb (d .opcode) OpTypeRayQueryKHR (note-opcode OpTypeRayQueryKHR (λ t. t))) at t
+      other t = rw (ne-eqb (d .opcode) OpTypeVoid (note-opcode OpTypeVoid (λ t. t)), ne-eqb (d .opcode) OpTypeFunction (note-opcode OpTypeFunction (λ t. t)), ne-eqb (d .opcode) OpTypeBool (note-opcode OpTypeBool (λ t. t)), ne-eqb (d .opcode) OpTypeInt (note-opcode OpTypeInt (λ t. t)), ne-eqb (d .opcode) OpTypeFloat (note-opcode OpTypeFloat (λ t. t)), ne-eqb (d .opcode) OpTypeVector (note-opcode OpTypeVector (λ t. t)), ne-eqb (d .opcode) OpTypeMatrix (note-opcode OpTypeMatrix (λ t. t)), ne-eqb (d .opcode) OpTypeImage (note-opcode OpTypeImage (λ t. t)), ne-eqb (d .opcode) OpTypeSampler (note-opcode OpTypeSampler (λ t. t)), ne-eqb (d .opcode) OpTypeAccelerationStructureKHR (note-opcode OpTypeAccelerationStructureKHR (λ t. t)), ne-eqb (d .opcode) OpTypeRayQueryKHR (note-opcode OpTypeRayQueryKHR (λ t. t))) at t
 
   note-lists : listedBy d ≡ []
   unfolding listedBy
@@ -181,6 +187,16 @@ declaration-found i {d} r (List·Memᴰ·tail {x = y} {xs = ys} m) t = go (resul
     go : (b : Bool) → resultIs i (y .result) ≡ b → (times i ys ≡ 1 → declarationOf ys i ≡ some d) → pick b (some y) (declarationOf ys i) ≡ some d
     go true e f = absurd (omega (arith, t, once-is i (y .result) true e, times-in i m, ap (λ (o : Option ℕ). once o i) r, same-itself i))
     go false e f = f (omega (arith, t, once-is i (y .result) false e))
+
+-- what is found stands there
+declaration-in : (i : ℕ) (xs : List Instruction) (d : Instruction) → declarationOf xs i ≡ some d → List·Memᴰ d xs
+unfolding declarationOf
+declaration-in i [] d e = let z : _≡_ {A = ℕ} 0 1 = cc in absurd (omega arith)
+declaration-in i (x ∷ xs) d e = go (resultIs i (x .result)) e (declaration-in i xs d)
+  where
+    go : (b : Bool) → pick b (some x) (declarationOf xs i) ≡ some d → (declarationOf xs i ≡ some d → List·Memᴰ d xs) → List·Memᴰ d (x ∷ xs)
+    go true e f = let p : d ≡ x = cc in List·Memᴰ·head p
+    go false e f = List·Memᴰ·tail (f e)
 
 module _ (start : ℕ) (s : State) (h : Sound start [] s) where
   -- everything but the declarations
@@ -350,6 +366,114 @@ module _ (start : ℕ) (s : State) (h : Sound start [] s) where
           let y : r .0 ≡ j = cc in
           one-id l m i j (rw x at (q .2)) (rw y at (r .2))
 
+-- ---- function types
+
+-- equal types are one instruction
+equal-same : (ds : List Instruction) (a b : Instruction) → NoEqualTypes ds → EqualTypes a b → EqualTypes b a → List·Memᴰ a ds → List·Memᴰ b ds → a ≡ b
+equal-same [] a b h e f m n = absurd (List·Memᴰ·not-nil m)
+equal-same (x ∷ xs) a b h e f m n = go (List·Memᴰ·cases-cons m) (List·Memᴰ·cases-cons n) (equal-same xs a b (h .1) e f)
+  where
+    go : (a ≡ x) ⊎ List·Memᴰ a xs → (b ≡ x) ⊎ List·Memᴰ b xs → (List·Memᴰ a xs → List·Memᴰ b xs → a ≡ b) → a ≡ b
+    go (inl p) (inl q) k = p ∙ sym q
+    go (inl p) (inr q) k = absurd (h .0 b q (subst (λ (y : Instruction). EqualTypes y b) p e))
+    go (inr p) (inl q) k = absurd (h .0 a p (subst (λ (y : Instruction). EqualTypes y a) q f))
+    go (inr p) (inr q) k = k p q
+
+-- of these types void alone has its opcode
+is-void : (c : Composite) (id : ℕ) → T (isRoutine c) → routineOf c id .opcode ≡ OpTypeVoid → c ≡ void
+is-void (composite k xs) id t e = absurd t
+is-void (function xs) id t e = absurd (omega (arith, e))
+is-void void id t e = refl
+
+module _ (start : ℕ) (s : State) (h : Sound start [] s) where
+  -- one of them is entered under one id, which is the id that it is looked up by
+  routine-unique : (c : Composite) (i j : ℕ) → T (isRoutine c) → List·Memᴰ (c, i) (s .constants .composites) → List·Memᴰ (c, j) (s .constants .composites) → i ≡ j
+  routine-unique (composite k xs) i j t m n = absurd t
+  routine-unique (function xs) i j t m n =
+      let e = equal-same (s .declarations) (typeFunction i xs) (typeFunction j xs) (h .apart) (record { plain = tt; opcode = refl; operands = refl }) (record { plain = tt; opcode = refl; operands = refl }) (h .routines (function xs) i t m) (h .routines (function xs) j t n) in
+      let f : some i ≡ some j = ap (λ (d : Instruction). d .result) e in cc
+  routine-unique void i j t m n =
+      let e = equal-same (s .declarations) (typeVoid i) (typeVoid j) (h .apart) (record { plain = tt; opcode = refl; operands = refl }) (record { plain = tt; opcode = refl; operands = refl }) (h .routines void i t m) (h .routines void j t n) in
+      let f : some i ≡ some j = ap (λ (d : Instruction). d .result) e in cc
+
+  routine-found : (c : Composite) (i : ℕ) → T (isRoutine c) → List·Memᴰ (c, i) (s .constants .composites) → lookup sameComposite c (s .constants .composites) ≡ some i
+  routine-found c i t m = go (lookup sameComposite c (s .constants .composites)) refl
+    where
+      go : (o : Option ℕ) → lookup sameComposite c (s .constants .composites) ≡ o → o ≡ some i
+      go none e = absurd (lookup-out sameComposite c (s .constants .composites) e i m)
+      go (some j) e = ap some (routine-unique c j i t (lookup-in sameComposite c (s .constants .composites) j e) m)
+
+  -- what a record names is entered under the ids of its signature
+  result-is : (o : Option ℕ) (x : ℕ) → ResultIs o s x → returnId s o ≡ x
+  result-is none x m = ap (λ (o : Option ℕ). orElse 0 o) (routine-found void x tt m)
+  result-is (some t) x m = ap (λ (o : Option ℕ). orElse 0 o) (found-id start s h t x m)
+
+  ids-are : (ts xs : List ℕ) → AreIds ts s xs → entryIds s ts ≡ xs
+  unfolding entryIds
+  ids-are [] [] a = refl
+  ids-are [] (x ∷ xs) a = absurd a
+  ids-are (t ∷ ts) [] a = absurd a
+  ids-are (t ∷ ts) (x ∷ xs) a =
+      let e : entryId s t ≡ x = ap (λ (o : Option ℕ). orElse 0 o) (found-id start s h t x (a .0)) in
+      let f = ids-are ts xs (a .1) in
+      λ j. e j ∷ f j
+
+  -- an entered function type or void is what the reader finds under its id
+  routine-read : (c : Composite) (i : ℕ) → T (isRoutine c) → List·Memᴰ (c, i) (s .constants .composites) → declarationOf (instructions s) i ≡ some (routineOf c i)
+  routine-read c i t m =
+      let r = no-other start s h i (h .constants .composites c i m) in
+      declaration-found i (routine-result c i) (all-declarations start s h (h .routines c i t m)) (all-times start s h i ∙ each-once start s h i (r .0) (r .1))
+
+  -- an instruction of a plain type is a declaration
+  plain-declared : (d : Instruction) → T (plainType (d .opcode)) → List·Memᴰ d (instructions s) → List·Memᴰ d (s .declarations)
+  plain-declared d t m = go (List·Memᴰ·append-cases (front start s h) (rw (as-front start s h) at m))
+    where
+      go : List·Memᴰ d (front start s h) ⊎ List·Memᴰ d (s .declarations) → List·Memᴰ d (s .declarations)
+      go (inl n) = absurd (all-quiet (front start s h) (front-quiet start s h) d n .other t)
+      go (inr n) = n
+
+  -- where the reader finds void, it is entered
+  void-entered : (i : ℕ) → readVoid (instructions s) i ≡ true → (j : ℕ) × List·Memᴰ (void, j) (s .constants .composites)
+  unfolding readVoid
+  void-entered i e = go (declarationOf (instructions s) i) refl e
+    where
+      by : (d : Instruction) → d .opcode ≡ OpTypeVoid → Spelt (s .types) d ⊎ Routine (s .constants .composites) d → (j : ℕ) × List·Memᴰ (void, j) (s .constants .composites)
+      by d o (inl p) = absurd (not-shape (p .l) void 0 tt (sym o ∙ ap (λ (x : Instruction). x .opcode) (p .spells)))
+      by d o (inr r) = (r .id, subst (λ (c : Composite). List·Memᴰ (c, r .id) (s .constants .composites)) (is-void (r .c) (r .id) (r .is) (sym (ap (λ (x : Instruction). x .opcode) (r .spells)) ∙ o)) (r .entered))
+
+      go : (o : Option Instruction) → declarationOf (instructions s) i ≡ o → voidBy o ≡ true → (j : ℕ) × List·Memᴰ (void, j) (s .constants .composites)
+      go none f t = let z : _≡_ {A = ℕ} 0 1 = cc in absurd (omega arith)
+      go (some d) f t =
+          let o : d .opcode ≡ OpTypeVoid = eqb→eq (d .opcode) OpTypeVoid (rw t tt) in
+          let p : T (plainType (d .opcode)) = rw o tt in
+          by d o (h .spelt d (plain-declared d p (declaration-in i (instructions s) d f)) p)
+
+  pub functions-declared : (fs : List Function) → ((f : Function) → List·Memᴰ f fs → Signed f s) → ((i : ℕ) → List·Memᴰ (void, i) (s .constants .composites) → VoidReturned fs) → FunctionsDeclared fs s (instructions s)
+  unfolding readFunction readVoid
+  functions-declared fs signed voids = record {
+    shared = λ f g i j m n a b. (
+      λ e.
+          let p = function-read (signatureOf s f) i a in
+          let q = function-read (signatureOf s g) j b in
+          let z : some (signatureOf s f) ≡ some (signatureOf s g) = sym p ∙ ap (readFunction (instructions s)) e ∙ q in cc,
+      λ e. let z : some i ≡ some j = sym a ∙ ap (λ (xs : List ℕ). lookup sameComposite (function xs) (s .constants .composites)) e ∙ b in cc,
+    );
+    declared = λ f m.
+        let n = signed f m in
+        let e : signatureOf s f ≡ n .result ∷ n .parameters = let a = result-is (f .result) (n .result) (n .returns) in let b = ids-are (f .parameters) (n .parameters) (n .takes) in λ j. a j ∷ b j in
+        let a = routine-found (function (signatureOf s f)) (n .id) tt (rw e (n .has)) in
+        (n .id, a, function-read (signatureOf s f) (n .id) a);
+    returns-void = λ f m e. void-read (f .result) e (signed f m .result) (signed f m .returns);
+    void-returned = λ i e. let v = void-entered i e in voids (v .0) (v .1);
+  }
+    where
+      function-read : (xs : List ℕ) (i : ℕ) → lookup sameComposite (function xs) (s .constants .composites) ≡ some i → readFunction (instructions s) i ≡ some xs
+      function-read xs i e = rw (routine-read (function xs) i tt (lookup-in sameComposite (function xs) (s .constants .composites) i e)) refl
+
+      void-read : (o : Option ℕ) → o ≡ none → (x : ℕ) → ResultIs o s x → readVoid (instructions s) (returnId s o) ≡ true
+      void-read none e x m = rw (routine-found void x tt m, routine-read void x tt m) refl
+      void-read (some t) e x m = let z : _≡_ {A = ℕ} 0 1 = cc in absurd (omega arith)
+
 -- Whatever sheet the definition finds fit, whoever reads its words finds it well declared.
 pub demand-3 : Demand3
 demand-3 s bytes p e =
@@ -362,6 +486,7 @@ demand-3 s bytes p e =
       written = refl;
       well = well-declared start (p .state) h;
       entries = entries-declared start (p .state) h (p .seen .types) (f .good .told);
+      functions = functions-declared start (p .state) h (p .seen .functions) (f .good .functions) (f .good .voids);
     }
 
 -- The same of the words that Declare leaves in a buffer: where it answers Written, the module stands at the buffer's front.
@@ -380,7 +505,7 @@ demand-3-of-declare s b bytes n bound e = outer (judged s) refl e
         record {
           progress = p;
           fits = f;
-          found = record { found = d .found; reads = rw front (d .reads); written = d .written; well = d .well; entries = d .entries };
+          found = record { found = d .found; reads = rw front (d .reads); written = d .written; well = d .well; entries = d .entries; functions = d .functions };
           bound-is = sym q ∙ sym (ap (λ (m : Module). m .bound) (d .written));
           rest = rw (f, l) (drop-at ws (drop (length ws) b) n m ∙ ap (λ (k : ℕ). drop k b) m);
         }

@@ -2,7 +2,7 @@
 -- find needs only that every pending id's shape nests deeper (`Over`). A new shape begins, finds its inner type and its length,
 -- and is declared; a new value takes its id, finds its type, and is declared.
 use Prim.Native.Nat.{ℕ, suc, zero, _/_, _%_, _<_, _≤_}
-use mathlib.Core.Path.{_≡_, refl, ap, _∙_, subst}
+use mathlib.Core.Path.{_≡_, refl, sym, ap, _∙_, subst}
 use mathlib.Core.Logic.{_⊎_, inl, inr}
 use mathlib.Core.List.{List, [], _∷_, _++_, List·Memᴰ, List·Memᴰ·head, List·Memᴰ·not-nil, List·Memᴰ·cases-cons, List·Memᴰ·append-cases, List·Memᴰ·eq-of-singleton, Memᴰ·append-left}
 use mathlib.Core.Option.{Option, some, none}
@@ -16,43 +16,45 @@ use Rattle.definition.specs.Reader.{uses}
 use Rattle.definition.specs.Literals.{Literal, f64, f32, u32, i32, boolean, sameLiteral}
 use Rattle.definition.specs.Shapes.{Shape, Key, sameKey, inner, sized, rank, rankOf, typeOf, float}
 use Rattle.definition.specs.Shapes.{scalar, vector, matrix, pointer, valuePointer, image, sampler, accelerationStructure, rayQuery, bindingArray, bindingPointer, entry, shape, one, many}
-use Rattle.definition.specs.State.{Constants, State, Got, lookup, same, takeId, enter, withConstants, declareAlone, declareWith}
+use Rattle.definition.specs.State.{Composite, Constants, State, Got, lookup, same, takeId, enter, withConstants, declareAlone, declareWith}
 use Rattle.definition.specs.Finding.{capabilitiesOf, literalKind, literalOp, enterLiteral, orNewValue, literalWith, innerGot, lengthGot, newKey, orNewKey, findAt, find}
 use Rattle.definition.specs.WellDeclared.{times, once, EqualTypes, plainType, needs}
 use Rattle.definition.proofs.Lists.{last-in, snoc-cases, same-itself, times-snoc, times-in, lookup-in, lookup-out}
 use Rattle.definition.proofs.Sizes.{W, Under, Sized, SmallKind, SmallShape}
 use Rattle.definition.proofs.ByShape.{taken, FitsIn, FitsLength, Formed, innerIds, lengthIds, Inside, SmallLength, uses-type, Deeper, equal-types-same, facts}
-use Rattle.definition.proofs.Sound.{Sound, Settled, Held, declared-snoc, settled-declared, take-sound, begin-sound, declare-sound, other-sound, constants-sound, not-declared, taken-range}
+use Rattle.definition.proofs.Sound.{Sound, Settled, Spelt, Routine, isRoutine, not-shape, Held, declared-snoc, settled-declared, take-sound, begin-sound, declare-sound, other-sound, constants-sound, not-declared, taken-range}
 
--- what is entered and declared stays so
+-- what is entered and declared stays so, and no entry, function type or void is entered
 pub record Grew (s t : State) : Type 0 where
   pub more : (k : Key) (i : ℕ) → List·Memᴰ (k, i) (s .types) → List·Memᴰ (k, i) (t .types)
   pub still : (i : ℕ) → times i (s .declarations) ≤ times i (t .declarations)
   pub up : s .last ≤ t .last
   pub values : t .constants .values ≡ s .constants .values
   pub fresh : (h i : ℕ) → List·Memᴰ (entry h, i) (t .types) → List·Memᴰ (entry h, i) (s .types)
+  pub shared : (c : Composite) (i : ℕ) → List·Memᴰ (c, i) (s .constants .composites) → List·Memᴰ (c, i) (t .constants .composites)
+  pub routines : (c : Composite) (i : ℕ) → T (isRoutine c) → List·Memᴰ (c, i) (t .constants .composites) → List·Memᴰ (c, i) (s .constants .composites)
 
 pub grew-refl : (s : State) → Grew s s
-grew-refl s = record { more = λ k i m. m; still = λ i. omega arith; up = omega arith; values = refl; fresh = λ h i m. m }
+grew-refl s = record { more = λ k i m. m; still = λ i. omega arith; up = omega arith; values = refl; fresh = λ h i m. m; shared = λ c i m. m; routines = λ c i t m. m }
 
 pub grew-trans : {s t u : State} → Grew s t → Grew t u → Grew s u
-grew-trans g h = record { more = λ k i m. h .more k i (g .more k i m); still = λ i. omega (arith, g .still i, h .still i); up = omega (arith, g .up, h .up); values = h .values ∙ g .values; fresh = λ n i m. g .fresh n i (h .fresh n i m) }
+grew-trans g h = record { more = λ k i m. h .more k i (g .more k i m); still = λ i. omega (arith, g .still i, h .still i); up = omega (arith, g .up, h .up); values = h .values ∙ g .values; fresh = λ n i m. g .fresh n i (h .fresh n i m); shared = λ c i m. h .shared c i (g .shared c i m); routines = λ c i t m. g .routines c i t (h .routines c i t m) }
 
 pub with-grew : (cs : List ℕ) (d : Instruction) (s : State) → Grew s (declareWith cs d s)
-with-grew cs d s = record { more = λ k i m. m; still = λ i. omega (arith, times-snoc i (s .declarations) d); up = omega arith; values = refl; fresh = λ h i m. m }
+with-grew cs d s = record { more = λ k i m. m; still = λ i. omega (arith, times-snoc i (s .declarations) d); up = omega arith; values = refl; fresh = λ h i m. m; shared = λ c i m. m; routines = λ c i t m. m }
 
 pub declare-grew : (d : Instruction) (s : State) → Grew s (declareAlone d s)
 declare-grew d s = with-grew [] d s
 
 pub enter-grew : (l : Shape) (id : ℕ) (s : State) → Grew s (enter (shape l) id s)
-enter-grew l id s = record { more = λ k′ i m. Memᴰ·append-left ((shape l, id) ∷ []) m; still = λ i. omega arith; up = omega arith; values = refl; fresh = λ h i m. back h i (snoc-cases (s .types) m) }
+enter-grew l id s = record { more = λ k′ i m. Memᴰ·append-left ((shape l, id) ∷ []) m; still = λ i. omega arith; up = omega arith; values = refl; fresh = λ h i m. back h i (snoc-cases (s .types) m); shared = λ c i m. m; routines = λ c i t m. m }
   where
     back : (h i : ℕ) → List·Memᴰ (entry h, i) (s .types) ⊎ (Path (Key × ℕ) (entry h, i) (shape l, id)) → List·Memᴰ (entry h, i) (s .types)
     back h i (inl m) = m
     back h i (inr q) = let p : entry h ≡ shape l = ap (λ (y : Key × ℕ). y .0) q in let z : _≡_ {A = ℕ} 0 1 = cc in absurd (omega arith)
 
 pub take-grew : (s : State) → Grew s (takeId s)
-take-grew s = record { more = λ k i m. m; still = λ i. omega arith; up = omega arith; values = refl; fresh = λ h i m. m }
+take-grew s = record { more = λ k i m. m; still = λ i. omega arith; up = omega arith; values = refl; fresh = λ h i m. m; shared = λ c i m. m; routines = λ c i t m. m }
 
 -- every pending id's shape nests deeper
 abbrev pub Over : ℕ → List (ℕ × ℕ) → Type 0
@@ -123,8 +125,9 @@ pub grounded-more : {s t : State} → Grew s t → (k : Key) → Grounded (s .ty
 grounded-more w (entry h) g = (g .0, w .more (entry h) (g .0) (g .1))
 grounded-more w (shape l) g = record { entered = λ b m. let q = g .entered b m in (q .0, w .more (entry b) (q .0) (q .1)); small = g .small }
 
-pub constants-grew : (c : Constants) (s : State) → c .values ≡ s .constants .values → Grew s (withConstants c s)
-constants-grew c s e = record { more = λ k i m. m; still = λ i. omega arith; up = omega arith; values = e; fresh = λ h i m. m }
+pub constants-grew : (c : Constants) (s : State) → c .values ≡ s .constants .values → ((x : Composite) (i : ℕ) → List·Memᴰ (x, i) (s .constants .composites) → List·Memᴰ (x, i) (c .composites))
+    → ((x : Composite) (i : ℕ) → T (isRoutine x) → List·Memᴰ (x, i) (c .composites) → List·Memᴰ (x, i) (s .constants .composites)) → Grew s (withConstants c s)
+constants-grew c s e f g = record { more = λ k i m. m; still = λ i. omega arith; up = omega arith; values = e; fresh = λ h i m. m; shared = f; routines = g }
 
 -- the ids of a list are declared
 abbrev pub AllDeclared : List ℕ → State → Type 0
@@ -162,6 +165,8 @@ pub record Writes (s : State) (write : ℕ → ℕ → Instruction) : Type 0 whe
 pub record Keeps (note : ℕ → Constants → Constants) : Type 0 where
   pub held : (id : ℕ) (c : Constants) (ds : List Instruction) → Held c ds → 1 ≤ times id ds → Held (note id c) ds
   pub values : (id : ℕ) (c : Constants) → note id c .values ≡ c .values
+  pub more : (id : ℕ) (c : Constants) (x : Composite) (i : ℕ) → List·Memᴰ (x, i) (c .composites) → List·Memᴰ (x, i) (note id c .composites)
+  pub back : (id : ℕ) (c : Constants) (x : Composite) (i : ℕ) → T (isRoutine x) → List·Memᴰ (x, i) (note id c .composites) → List·Memᴰ (x, i) (c .composites)
 
 -- a literal whose words fit
 abbrev pub SmallLiteral : Literal → Type 0
@@ -221,6 +226,8 @@ literal-keeps : (l : Literal) → Keeps (enterLiteral l)
 literal-keeps l = record {
   held = λ id c ds h old. record { literals = declared-snoc (c .literals) ds l id (h .literals) old; composites = h .composites; nulls = h .nulls; values = h .values };
   values = λ id c. refl;
+  more = λ id c x i m. m;
+  back = λ id c x i t m. m;
 }
 
 pub small-literal-kind : (l : Literal) → SmallKind (literalKind l)
@@ -266,18 +273,21 @@ module _ (start : ℕ) where
   shape-sound l id x y P s sm lx ly m f g used h =
       declare-sound start (rankOf l) id P s (capabilitiesOf l) (typeOf l id x y) refl (facts l .formed id x y) (facts l .fits sm (s .last) id x y (h .bounded (shape l) id m) lx ly) (facts l .needed sm id x y)
       (λ u n. used u (rw (uses-type l id x y) at n)) alone
-      (λ t. record { l = l; id = id; x = x; y = y; spells = refl; entered = m; fits = f })
+      (λ t. inl (record { l = l; id = id; x = x; y = y; spells = refl; entered = m; fits = f }))
       settles h
     where
       alone : (j : Instruction) → List·Memᴰ j (s .declarations) → EqualTypes j (typeOf l id x y) → ⊥
-      alone j n t =
-          let p = h .spelt j n (t .plain) in
-          let t′ : EqualTypes (typeOf (p .l) (p .id) (p .x) (p .y)) (typeOf l id x y) = rw (p .spells) at t in
-          let e : p .l ≡ l = equal-types-same (s .types) (h .injective) (p .l) l (p .id) id (p .x) (p .y) x y (p .fits) f t′ in
-          let q : p .id ≡ id = h .unique (shape l) (p .id) id (rw e at (p .entered)) m in
-          let o : once (j .result) id ≡ same id (p .id) = ap (λ (d : Instruction). once (d .result) id) (p .spells) in
-          let o′ : same id (p .id) ≡ 1 = rw q (same-itself id) in
-          omega (arith, times-in id n, o, o′, not-declared start (rankOf l) id P s h (h .bounded (shape l) id m))
+      alone j n t = by (h .spelt j n (t .plain))
+        where
+          by : Spelt (s .types) j ⊎ Routine (s .constants .composites) j → ⊥
+          by (inr r) = not-shape l (r .c) (r .id) (r .is) (sym (ap (λ (d : Instruction). d .opcode) (r .spells)) ∙ t .opcode)
+          by (inl p) =
+              let t′ : EqualTypes (typeOf (p .l) (p .id) (p .x) (p .y)) (typeOf l id x y) = rw (p .spells) at t in
+              let e : p .l ≡ l = equal-types-same (s .types) (h .injective) (p .l) l (p .id) id (p .x) (p .y) x y (p .fits) f t′ in
+              let q : p .id ≡ id = h .unique (shape l) (p .id) id (rw e at (p .entered)) m in
+              let o : once (j .result) id ≡ same id (p .id) = ap (λ (d : Instruction). once (d .result) id) (p .spells) in
+              let o′ : same id (p .id) ≡ 1 = rw q (same-itself id) in
+              omega (arith, times-in id n, o, o′, not-declared start (rankOf l) id P s h (h .bounded (shape l) id m))
 
       settles : (a : Shape) → List·Memᴰ (shape a, id) (s .types) → rankOf a ≡ rankOf l → Settled (s .types) (s .declarations ++ typeOf l id x y ∷ []) a id
       settles a n e =
@@ -306,8 +316,8 @@ module _ (start : ℕ) where
       let t-sound : Sound start P t = other-sound start id P (g .state) d (w .result (g .id) id) (w .formed (g .id) id) fits (w .other (g .id) id) (w .free (g .id) id)
       (λ u m. used g (r .declared) u (r .grew .still u) (w .used (g .id) id u m)) (r .sound) in
       record {
-        sound = constants-sound start (note id (t .constants)) P t (kp .held id (t .constants) (t .declarations) (t-sound .constants) new) t-sound;
-        grew = grew-trans (take-grew s) (grew-trans (r .grew) (grew-trans (declare-grew d (g .state)) (constants-grew (note id (t .constants)) t (kp .values id (t .constants)))));
+        sound = constants-sound start (note id (t .constants)) P t (kp .held id (t .constants) (t .declarations) (t-sound .constants) new) (kp .more id (t .constants)) (kp .back id (t .constants)) t-sound;
+        grew = grew-trans (take-grew s) (grew-trans (r .grew) (grew-trans (declare-grew d (g .state)) (constants-grew (note id (t .constants)) t (kp .values id (t .constants)) (kp .more id (t .constants)) (kp .back id (t .constants)))));
         declared = new;
       }
     where

@@ -47,10 +47,10 @@ member-name-target id i bs t m = List·Memᴰ·eq-of-singleton m
 
 -- what adds a name or a decoration changes nothing else
 pub annotate-grew : (d : Instruction) (s : State) → Grew s (annotate d s)
-annotate-grew d s = record { more = λ k i m. m; still = λ i. omega arith; up = omega arith; values = refl; fresh = λ h i m. m }
+annotate-grew d s = record { more = λ k i m. m; still = λ i. omega arith; up = omega arith; values = refl; fresh = λ h i m. m; shared = λ c i m. m; routines = λ c i t m. m }
 
 pub label-grew : (d : Instruction) (s : State) → Grew s (label d s)
-label-grew d s = record { more = λ k i m. m; still = λ i. omega arith; up = omega arith; values = refl; fresh = λ h i m. m }
+label-grew d s = record { more = λ k i m. m; still = λ i. omega arith; up = omega arith; values = refl; fresh = λ h i m. m; shared = λ c i m. m; routines = λ c i t m. m }
 
 pub annotateIf-grew : (b : Bool) (d : Instruction) (s : State) → Grew s (annotateIf b d s)
 annotateIf-grew false d s = grew-refl s

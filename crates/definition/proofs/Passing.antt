@@ -2,7 +2,7 @@
 -- strings (test 9), a Compose short enough (tests 1 and 8), and references to entries already read (test 11).
 use Prim.Native.Nat.{ℕ, suc, zero, _+_, _<_, _≤_}
 use mathlib.Core.Path.{_≡_, refl, ap}
-use mathlib.Core.List.{List, List·Memᴰ, List·Memᴰ·head}
+use mathlib.Core.List.{List, _++_, List·Memᴰ, List·Memᴰ·head}
 use mathlib.Core.Bool.{true}
 use native.Mathlib.Omega.{arith}
 use lib.Dec.{T, eqb, ltb, ltb→lt, eqb→eq}
@@ -11,8 +11,8 @@ use Rattle.definition.specs.Choice.{every}
 use Rattle.definition.specs.Bytes.{u8At, u16At, nameAt, nameEnd}
 use Rattle.definition.specs.Utf8.{nameFits}
 use Rattle.definition.specs.Literals.{Literal}
-use Rattle.definition.specs.Sheet.{Record, TypeInner, TypeEntry, Expression, Global, Entry, Fields, u16sAt, membersAt, typeFields, formOf, literalFields, constantFields, globalFields, remapFields, mapFields, typeEntry, tagRank, entryOf}
-use Rattle.definition.specs.Sheet.{available, remap, type, constant, global}
+use Rattle.definition.specs.Sheet.{Record, TypeInner, TypeEntry, Function, Expression, Global, Entry, Fields, u16sAt, membersAt, typeFields, functionFields, formOf, literalFields, constantFields, globalFields, remapFields, mapFields, typeEntry, tagRank, entryOf}
+use Rattle.definition.specs.Sheet.{available, remap, type, function, constant, global}
 use Rattle.definition.specs.Tests.{Seen, placeTest, formKnown, memberNames, innerNames, namesOf, valuesFit, innerTypes, expressionTypes, expressionConstants, typesNamed, constantsNamed, initList, below, readAlready, entryTest, readingTest}
 use Rattle.definition.proofs.Truth.{both-true, every-one, pick-for, first-passed, unless-passed}
 use Rattle.definition.proofs.Sizes.{W, Under}
@@ -29,6 +29,10 @@ pub record GoodType (n : Seen) (t : TypeEntry) : Type 0 where
   pub inner : GoodInner (t .inner)
   pub references : (b : ℕ) → List·Memᴰ b (innerTypes (t .inner)) → b < length (n .types)
 
+pub record GoodFunction (n : Seen) (f : Function) : Type 0 where
+  pub few : length (f .parameters) ≤ 255
+  pub types : (t : ℕ) → List·Memᴰ t (initList (f .result) ++ f .parameters) → t < length (n .types)
+
 pub record GoodConstant (n : Seen) (e : Expression) : Type 0 where
   pub good : GoodExpression e
   pub types : (t : ℕ) → List·Memᴰ t (expressionTypes e) → t < length (n .types)
@@ -43,6 +47,7 @@ abbrev pub GoodEntry : Seen → Entry → Type 0
 GoodEntry n (available cs) = Unit
 GoodEntry n (remap m) = m .size ≤ W
 GoodEntry n (type t) = GoodType n t
+GoodEntry n (function f) = GoodFunction n f
 GoodEntry n (constant e) = GoodConstant n e
 GoodEntry n (global g) = GoodVariable n g
 
@@ -147,17 +152,18 @@ module _ (r : Record) (u : Under 255 (r .body)) (few : length (r .body) ≤ 1638
     EntryPasses f = Passed n r (f .value) (f .end) → GoodEntry n (f .value)
 
     pub entry-good : EntryPasses (entryOf r)
-    unfolding entryOf remapFields globalFields
+    unfolding entryOf remapFields functionFields globalFields
     entry-good =
         pick-for EntryPasses (eqb (tagRank (r .tag)) 1) _ _ (λ p. tt)
         (pick-for EntryPasses (eqb (tagRank (r .tag)) 2) _ _ (λ p. u32-small (r .body) u 8)
         (pick-for EntryPasses (eqb (tagRank (r .tag)) 3) _ _ typed
-        (pick-for EntryPasses (eqb (tagRank (r .tag)) 4) _ _ (λ p. record { good = constant-passes (r .tag) (p .whole); types = p .types; constants = p .constants })
+        (pick-for EntryPasses (eqb (tagRank (r .tag)) 4) _ _ (λ p. record { few = omega (arith, parts-count (r .body) 3 (u8At (r .body) 2), u8-small (r .body) u 2); types = p .types })
+        (pick-for EntryPasses (eqb (tagRank (r .tag)) 5) _ _ (λ p. record { good = constant-passes (r .tag) (p .whole); types = p .types; constants = p .constants })
         (λ p. record {
           good = record { name = name-good (r .body) 0 u (both-true (nameFits (nameAt (r .body) 0)) true (p .names) .0); group = u32-small (r .body) u (nameEnd (r .body) 0 + 5); binding = u32-small (r .body) u (nameEnd (r .body) 0 + 9) };
           type = p .types (u16At (r .body) (nameEnd (r .body) 0)) (List·Memᴰ·head refl);
           init = p .constants;
-        }))))
+        })))))
       where
         typed : EntryPasses (mapFields (λ i. type (typeEntry r i)) (typeFields (r .tag) (r .body) (nameEnd (r .body) 0)))
         typed p =

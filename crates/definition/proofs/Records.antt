@@ -2,8 +2,8 @@
 -- of the progress with which a sheet is fit.
 use Prim.Native.Nat.{ℕ, suc, zero, _+_, _-_, _<_, _≤_}
 use mathlib.Core.Path.{_≡_, refl, ap, _∙_, subst}
-use mathlib.Core.Logic.{_⊎_, inl, inr}
-use mathlib.Core.List.{List, [], _∷_, _++_, List·Memᴰ, List·Memᴰ·head, List·Memᴰ·tail, List·Memᴰ·not-nil}
+use mathlib.Core.Logic.{_⊎_, inl, inr, ⊎-elim}
+use mathlib.Core.List.{List, [], _∷_, _++_, List·Memᴰ, List·Memᴰ·head, List·Memᴰ·tail, List·Memᴰ·not-nil, Memᴰ·append-left}
 use mathlib.Core.Option.{some}
 use mathlib.Core.Bool.{Bool, true, false}
 use native.Mathlib.Omega.{arith}
@@ -11,24 +11,24 @@ use lib.Dec.{leb, leb→le}
 use lib.ListN.{length, getElem?, drop, length-take, length-drop, length-append}
 use Rattle.definition.specs.Choice.{pick, within}
 use Rattle.definition.specs.Bytes.{u16At}
-use Rattle.definition.specs.Sheet.{Options, Record, TypeEntry, Expression, Global, Remap, Entry, recordAt, afterRecord, headerLength, startOf, flagsOf, optionsOf, entryOf, tagRank, available, remap, type, constant, global}
+use Rattle.definition.specs.Sheet.{Options, Record, TypeEntry, Function, Expression, Global, Remap, Entry, recordAt, afterRecord, headerLength, startOf, flagsOf, optionsOf, entryOf, tagRank, available, remap, type, function, constant, global}
 use Rattle.definition.specs.Tests.{sheetLeast, sheetMost, headerTest, add, addRecord, readingTest, Judged, refused, fit, judge, records, innerTypes}
 use Rattle.definition.specs.Shapes.{Key, shapeOf}
-use Rattle.definition.specs.State.{State, boundOf}
-use Rattle.definition.specs.Rules.{noEntry, declareEntry, declareType, declareConstant, declareGlobal}
+use Rattle.definition.specs.State.{void, State, boundOf}
+use Rattle.definition.specs.Rules.{noEntry, declareEntry, declareType, declareFunction, declareConstant, declareGlobal}
 use Rattle.definition.specs.Unfit.{fitnessTest}
 use Rattle.definition.specs.Operations.{Progress, begin, recordTest, declareRecord, boundMost, boundTest, judged}
-use Rattle.definition.specs.WellDeclared.{IsBytes}
+use Rattle.definition.specs.WellDeclared.{VoidReturned, IsBytes}
 use Rattle.definition.proofs.Truth.{both-true, first-passed, unless-passed}
-use Rattle.definition.proofs.Lists.{getD-snoc, element-snoc}
+use Rattle.definition.proofs.Lists.{last-in, snoc-cases, getD-snoc, element-snoc}
 use Rattle.definition.proofs.Sizes.{W, Under}
 use Rattle.definition.proofs.Sound.{Sound, start-sound}
 use Rattle.definition.proofs.Inners.{GoodInner, GoodTypes}
 use Rattle.definition.proofs.Types.{Told, told-more, type-done}
-use Rattle.definition.proofs.Values.{Referring, GoodRemaps, Read, read-more, global-kept, constant-kept}
+use Rattle.definition.proofs.Values.{Referring, GoodRemaps, Read, read-more, Stays, Signed, signed-stays, read-aside, aside-stays, function-kept, constant-kept, global-kept}
 use Rattle.definition.proofs.Bounds.{under-take, under-drop}
 use Rattle.definition.proofs.Walk.{records-kept}
-use Rattle.definition.proofs.Passing.{GoodEntry, GoodType, GoodConstant, GoodVariable, reading-passed, entry-good}
+use Rattle.definition.proofs.Passing.{GoodEntry, GoodType, GoodFunction, GoodConstant, GoodVariable, reading-passed, entry-good}
 
 remaps-snoc : (ms : List Remap) (m : Remap) → GoodRemaps ms → m .size ≤ W → GoodRemaps (ms ++ m ∷ [])
 remaps-snoc [] m g h = (h, tt)
@@ -43,6 +43,8 @@ pub record Good (start : ℕ) (p : Progress) : Type 0 where
   pub referring : Referring (p .seen .types)
   pub remaps : GoodRemaps (p .seen .remaps)
   pub told : (h : ℕ) (t : TypeEntry) → getElem? (p .seen .types) h ≡ some t → Told h (shapeOf (t .inner)) (p .state .types)
+  pub functions : (f : Function) → List·Memᴰ f (p .seen .functions) → Signed f (p .state)
+  pub voids : (i : ℕ) → List·Memᴰ (void, i) (p .state .constants .composites) → VoidReturned (p .seen .functions)
 
 pub begin-good : (start : ℕ) → Good start (begin start)
 begin-good start = record {
@@ -52,6 +54,8 @@ begin-good start = record {
   referring = λ h b m. absurd (List·Memᴰ·not-nil m);
   remaps = tt;
   told = λ h t e. let z : _≡_ {A = ℕ} 0 1 = cc in absurd (omega arith);
+  functions = λ f m. absurd (List·Memᴰ·not-nil m);
+  voids = λ i m. absurd (List·Memᴰ·not-nil m);
 }
 
 module _ (start : ℕ) (o : Options) (k : ℕ) where
@@ -74,6 +78,8 @@ module _ (start : ℕ) (o : Options) (k : ℕ) where
             (λ i b m. omega (arith, h .referring i b m, longer)) (λ b m. omega (arith, g .references b m, longer)) i b m;
         remaps = h .remaps;
         told = λ i x e. told ts u s (h .told) (d .more) (d .told) i x (element-snoc ts t x i e);
+        functions = λ f m. signed-stays (record { more = d .more; shared = d .shared }) f (h .functions f m);
+        voids = λ i m. h .voids i (d .routines void i tt m);
       }
     where
       told : (ts : List TypeEntry) (u s : State) → ((i : ℕ) (x : TypeEntry) → getElem? ts i ≡ some x → Told i (shapeOf (x .inner)) (s .types)) → ((k : Key) (i : ℕ) → List·Memᴰ (k, i) (s .types) → List·Memᴰ (k, i) (u .types)) → Told (length ts) (shapeOf (t .inner)) (u .types)
@@ -89,12 +95,14 @@ module _ (start : ℕ) (o : Options) (k : ℕ) where
       let q = constant-kept start ts (length cs) e (p .state) (h .types) (g .good) (g .types) (g .constants) (h .read) (h .sound) in
       let longer : length (cs ++ e ∷ []) ≡ suc (length cs) = omega (arith, length-append cs (e ∷ [])) in
       record {
-        sound = q .0;
-        read = rw longer (q .1);
+        sound = q .sound;
+        read = rw longer (q .read);
         types = h .types;
         referring = h .referring;
         remaps = h .remaps;
-        told = λ i x f. told-more i (shapeOf (x .inner)) (p .state .types) (declareConstant ts e (p .state) .types) (q .2) (h .told i x f);
+        told = λ i x f. told-more i (shapeOf (x .inner)) (p .state .types) (declareConstant ts e (p .state) .types) (q .stays .more) (h .told i x f);
+        functions = λ f m. signed-stays (q .stays) f (h .functions f m);
+        voids = λ i m. h .voids i (q .routines void i tt m);
       }
 
   global-good : (p : Progress) (g : Global) → GoodVariable (p .seen) g → Good start p → Good start (After p (global g))
@@ -108,13 +116,36 @@ module _ (start : ℕ) (o : Options) (k : ℕ) where
         referring = h .referring;
         remaps = h .remaps;
         told = λ i x f. told-more i (shapeOf (x .inner)) (p .state .types) (declareGlobal o (p .seen) g (p .state) .types) (q .grew .more) (h .told i x f);
+        functions = λ f m. signed-stays (record { more = q .grew .more; shared = q .grew .shared }) f (h .functions f m);
+        voids = λ i m. h .voids i (q .grew .routines void i tt m);
       }
+
+  function-good : (p : Progress) (f : Function) → GoodFunction (p .seen) f → Good start p → Good start (After p (function f))
+  unfolding add
+  function-good p f g h =
+      let q = function-kept start (p .seen .types) f (p .state) (g .few) (g .types) (h .read .types) (h .sound) in
+      let w = aside-stays (q .aside) in
+      record {
+        sound = q .sound;
+        read = read-aside (q .aside) (h .read);
+        types = h .types;
+        referring = h .referring;
+        remaps = h .remaps;
+        told = λ i x e. told-more i (shapeOf (x .inner)) (p .state .types) (declareFunction f (p .state) .types) (w .more) (h .told i x e);
+        functions = λ x m. functions w (q .signed) x (snoc-cases (p .seen .functions) m);
+        voids = λ i m. ⊎-elim (λ n. let v = h .voids i n in (v .0, Memᴰ·append-left (f ∷ []) (v .1), v .2)) (λ e. (f, last-in (p .seen .functions) f, e)) (q .voids i m);
+      }
+    where
+      functions : Stays (p .state) (declareFunction f (p .state)) → Signed f (declareFunction f (p .state)) → (x : Function) → List·Memᴰ x (p .seen .functions) ⊎ (x ≡ f) → Signed x (declareFunction f (p .state))
+      functions w n x (inl m) = signed-stays w x (h .functions x m)
+      functions w n x (inr e) = rw e n
 
   pub entry-kept : (p : Progress) (e : Entry) → GoodEntry (p .seen) e → Good start p → Good start (After p e)
   unfolding add
-  entry-kept p (available cs) g h = record { sound = h .sound; read = h .read; types = h .types; referring = h .referring; remaps = h .remaps; told = h .told }
-  entry-kept p (remap m) g h = record { sound = h .sound; read = h .read; types = h .types; referring = h .referring; remaps = remaps-snoc (p .seen .remaps) m (h .remaps) g; told = h .told }
+  entry-kept p (available cs) g h = record { sound = h .sound; read = h .read; types = h .types; referring = h .referring; remaps = h .remaps; told = h .told; functions = h .functions; voids = h .voids }
+  entry-kept p (remap m) g h = record { sound = h .sound; read = h .read; types = h .types; referring = h .referring; remaps = remaps-snoc (p .seen .remaps) m (h .remaps) g; told = h .told; functions = h .functions; voids = h .voids }
   entry-kept p (type t) g h = type-good p t g h
+  entry-kept p (function f) g h = function-good p f g h
   entry-kept p (constant e) g h = constant-good p e g h
   entry-kept p (global g) v h = global-good p g v h
 

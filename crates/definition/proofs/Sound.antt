@@ -2,20 +2,24 @@
 -- often an id is declared, plus how often it is pending, plus 1 if it lies up to the start, is 1 exactly up to the last id. Pending
 -- ids, taken and not yet declared, carry the nesting rank of their shape.
 use Prim.Native.Nat.{ℕ, suc, _+_, _<_, _≤_, min}
-use mathlib.Core.Path.{_≡_, refl, sym, ap, subst}
+use mathlib.Core.Path.{_≡_, refl, sym, ap, _∙_, subst}
 use mathlib.Core.Logic.{_⊎_, inl, inr}
 use mathlib.Core.List.{List, [], _∷_, _++_, List·Memᴰ, List·Memᴰ·head, List·Memᴰ·tail, List·Memᴰ·not-nil, List·Memᴰ·cases-cons, List·Memᴰ·append-cases, Memᴰ·append-left}
 use mathlib.Core.Option.{Option, some, none}
-use mathlib.Core.Bool.{Bool, true, false}
+use mathlib.Core.Bool.{Bool, true, false, not}
 use native.Mathlib.Omega.{arith}
 use lib.Dec.{T, leb}
 use borrow.Author.Tests.{leb-true, leb-false}
-use Rattle.definition.specs.Instructions.{Instruction}
+use Rattle.definition.specs.Choice.{among}
+use Rattle.definition.specs.Numbers.{OpTypeVoid, OpTypeFunction}
+use Rattle.definition.specs.Instructions.{Instruction, typeVoid, typeFunction}
 use Rattle.definition.specs.Reader.{uses}
-use Rattle.definition.specs.Shapes.{Kind, Shape, Key, inner, sized, rankOf, typeOf, entry, shape}
-use Rattle.definition.specs.State.{Valued, Constants, State, same, occurrences, takeId, enter, withConstants, annotate, label, declareAlone, declareWith, empty}
+use Rattle.definition.specs.Shapes.{Kind, Shape, Key, inner, sized, rankOf, opcodeOf, typeOf, entry, shape}
+use Rattle.definition.specs.Shapes.{sint, uint, float, bool, scalar, vector, matrix, pointer, valuePointer, image, sampler, accelerationStructure, rayQuery, bindingArray, bindingPointer}
+use Rattle.definition.specs.State.{Composite, composite, function, void, Valued, Constants, State, same, occurrences, takeId, enter, withConstants, annotate, label, declareAlone, declareWith, empty}
+use Rattle.definition.specs.Rules.{orNewType}
 use Rattle.definition.specs.WellDeclared.{times, once, Above, NoEqualTypes, EqualTypes, needs, needed, plainType, targets, marks}
-use Rattle.definition.proofs.Lists.{targets-append, snoc-cases, same-itself, upTo, upTo-in, upTo-out, upTo-suc, times-snoc, times-in, above-snoc, equal-types-snoc, listed-count, needed-snoc, table-bounded, table-unique}
+use Rattle.definition.proofs.Lists.{last-in, targets-append, snoc-cases, same-itself, upTo, upTo-in, upTo-out, upTo-suc, times-snoc, times-in, above-snoc, equal-types-snoc, listed-count, needed-snoc, table-bounded, table-unique}
 use Rattle.definition.proofs.Sizes.{Sized, sized-up, SmallKind}
 use Rattle.definition.proofs.ByShape.{FitsIn, FitsLength, Formed, facts}
 
@@ -41,6 +45,70 @@ pub record Spelt (types : List (Key × ℕ)) (d : Instruction) : Type 0 where
   pub spells : d ≡ typeOf l id x y
   pub entered : List·Memᴰ (shape l, id) types
   pub fits : FitsIn types (inner l) x
+
+-- types that are shared by what they name alone: functions and void
+abbrev pub isRoutine : Composite → Bool
+isRoutine (composite k xs) = false
+isRoutine (function xs) = true
+isRoutine void = true
+
+abbrev pub routineOf : Composite → ℕ → Instruction
+routineOf (composite k xs) id = typeVoid id
+routineOf (function xs) id = typeFunction id xs
+routineOf void id = typeVoid id
+
+-- one that is declared is entered
+pub record Routine (cs : List (Composite × ℕ)) (d : Instruction) : Type 0 where
+  pub c : Composite
+  pub id : ℕ
+  pub is : T (isRoutine c)
+  pub spells : d ≡ routineOf c id
+  pub entered : List·Memᴰ (c, id) cs
+
+pub routine-result : (c : Composite) (id : ℕ) → routineOf c id .result ≡ some id
+routine-result (composite k xs) id = refl
+routine-result (function xs) id = refl
+routine-result void id = refl
+
+routine-free : (c : Composite) (id : ℕ) → needs (routineOf c id) ≡ []
+unfolding needs
+routine-free (composite k xs) id = refl
+routine-free (function xs) id = refl
+routine-free void id = refl
+
+pub routine-same : (a b : Composite) (i j : ℕ) → T (isRoutine a) → T (isRoutine b) → routineOf a i .opcode ≡ routineOf b j .opcode → routineOf a i .operands ≡ routineOf b j .operands → a ≡ b
+routine-same (composite k xs) b i j p q e f = absurd p
+routine-same (function xs) (composite k ys) i j p q e f = absurd q
+routine-same (function xs) (function ys) i j p q e f = ap function f
+routine-same (function xs) void i j p q e f = absurd (omega (arith, e))
+routine-same void (composite k ys) i j p q e f = absurd q
+routine-same void (function ys) i j p q e f = absurd (omega (arith, e))
+routine-same void void i j p q e f = refl
+
+-- no shape is one
+abbrev notRoutine : ℕ → Bool
+notRoutine o = not (among o (OpTypeVoid ∷ OpTypeFunction ∷ []))
+
+shape-opcode : (l : Shape) → T (notRoutine (opcodeOf l))
+shape-opcode (scalar (sint w)) = tt
+shape-opcode (scalar (uint w)) = tt
+shape-opcode (scalar (float w)) = tt
+shape-opcode (scalar bool) = tt
+shape-opcode (vector n k) = tt
+shape-opcode (matrix c r w) = tt
+shape-opcode (pointer b c) = tt
+shape-opcode (valuePointer n k c) = tt
+shape-opcode (image k d p a m s f) = tt
+shape-opcode sampler = tt
+shape-opcode accelerationStructure = tt
+shape-opcode rayQuery = tt
+shape-opcode (bindingArray b n) = tt
+shape-opcode (bindingPointer b n s a) = tt
+
+pub not-shape : (l : Shape) (c : Composite) (id : ℕ) → T (isRoutine c) → routineOf c id .opcode ≡ opcodeOf l → ⊥
+not-shape l (composite k xs) id t e = t
+not-shape l (function xs) id t e = subst (λ (o : ℕ). T (notRoutine o)) (sym e) (shape-opcode l)
+not-shape l void id t e = subst (λ (o : ℕ). T (notRoutine o)) (sym e) (shape-opcode l)
 
 -- a name or a decoration
 pub record Note (last : ℕ) (d : Instruction) : Type 0 where
@@ -117,7 +185,8 @@ pub record Sound (start : ℕ) (P : List (ℕ × ℕ)) (s : State) : Type 0 wher
   pub injective : (l m : Shape) (i : ℕ) → List·Memᴰ (shape l, i) (s .types) → List·Memᴰ (shape m, i) (s .types) → l ≡ m
   pub handles : (h i : ℕ) → List·Memᴰ (entry h, i) (s .types) → 1 ≤ times i (s .declarations)
   pub settled : (l : Shape) (i : ℕ) → List·Memᴰ (shape l, i) (s .types) → List·Memᴰ (rankOf l, i) P ⊎ Settled (s .types) (s .declarations) l i
-  pub spelt : (d : Instruction) → List·Memᴰ d (s .declarations) → T (plainType (d .opcode)) → Spelt (s .types) d
+  pub spelt : (d : Instruction) → List·Memᴰ d (s .declarations) → T (plainType (d .opcode)) → Spelt (s .types) d ⊎ Routine (s .constants .composites) d
+  pub routines : (c : Composite) (i : ℕ) → T (isRoutine c) → List·Memᴰ (c, i) (s .constants .composites) → List·Memᴰ (routineOf c i) (s .declarations)
   pub constants : Held (s .constants) (s .declarations)
   pub formed : (d : Instruction) → List·Memᴰ d (s .declarations) → Declaration (s .last) d
 
@@ -133,6 +202,14 @@ settled-later types ds d l i h = record { x = h .x; y = h .y; length = h .length
 
 spelt-more : (types : List (Key × ℕ)) (e : Key × ℕ) (d : Instruction) → Spelt types d → Spelt (types ++ e ∷ []) d
 spelt-more types e d h = record { l = h .l; id = h .id; x = h .x; y = h .y; spells = h .spells; entered = Memᴰ·append-left (e ∷ []) (h .entered); fits = fits-more types e (inner (h .l)) (h .x) (h .fits) }
+
+plain-more : (types : List (Key × ℕ)) (e : Key × ℕ) (cs : List (Composite × ℕ)) (d : Instruction) → Spelt types d ⊎ Routine cs d → Spelt (types ++ e ∷ []) d ⊎ Routine cs d
+plain-more types e cs d (inl h) = inl (spelt-more types e d h)
+plain-more types e cs d (inr r) = inr r
+
+plain-later : (types : List (Key × ℕ)) (cs ds : List (Composite × ℕ)) (d : Instruction) → ((x : Composite) (i : ℕ) → List·Memᴰ (x, i) cs → List·Memᴰ (x, i) ds) → Spelt types d ⊎ Routine cs d → Spelt types d ⊎ Routine ds d
+plain-later types cs ds d f (inl h) = inl h
+plain-later types cs ds d f (inr r) = inr (record { c = r .c; id = r .id; is = r .is; spells = r .spells; entered = f (r .c) (r .id) (r .entered) })
 
 held-later : (c : Constants) (ds : List Instruction) (d : Instruction) → Held c ds → Held c (ds ++ d ∷ [])
 held-later c ds d h = record {
@@ -158,6 +235,7 @@ module _ (start : ℕ) where
     caps = λ c. refl;
     names = record { on = λ t m. absurd (List·Memᴰ·not-nil m); notes = λ d m. absurd (List·Memᴰ·not-nil m) };
     annotations = record { on = λ t m. absurd (List·Memᴰ·not-nil m); notes = λ d m. absurd (List·Memᴰ·not-nil m) };
+    routines = λ c i t m. absurd (List·Memᴰ·not-nil m);
     bounded = λ k i m. absurd (List·Memᴰ·not-nil m);
     unique = λ k i j m. absurd (List·Memᴰ·not-nil m);
     injective = λ l m i e. absurd (List·Memᴰ·not-nil e);
@@ -177,6 +255,7 @@ module _ (start : ℕ) where
     caps = h .caps;
     names = notes-up start (s .last) (s .names) (h .names);
     annotations = notes-up start (s .last) (s .annotations) (h .annotations);
+    routines = h .routines;
     bounded = λ k i m. omega (arith, h .bounded k i m);
     unique = h .unique;
     injective = h .injective;
@@ -201,12 +280,13 @@ module _ (start : ℕ) where
     caps = g .caps;
     names = g .names;
     annotations = g .annotations;
+    routines = h .routines;
     bounded = table-bounded (s .types) (shape l) (suc (s .last)) (suc (s .last)) (g .bounded) (omega arith);
     unique = table-unique (s .types) (shape l) (suc (s .last)) (h .unique) new;
     injective = λ a b i m n. injective a b i (snoc-cases (s .types) m) (snoc-cases (s .types) n);
     handles = λ k i m. handles k i (snoc-cases (s .types) m);
     settled = λ a i m. settled a i (snoc-cases (s .types) m);
-    spelt = λ d m t. spelt-more (s .types) e d (h .spelt d m t);
+    spelt = λ d m t. plain-more (s .types) e (s .constants .composites) d (h .spelt d m t);
     constants = h .constants;
     formed = g .formed;
   }
@@ -249,12 +329,13 @@ module _ (start : ℕ) where
     caps = h .caps;
     names = h .names;
     annotations = h .annotations;
+    routines = h .routines;
     bounded = table-bounded (s .types) (entry k) id (s .last) (h .bounded) low;
     unique = table-unique (s .types) (entry k) id (h .unique) new;
     injective = λ a b i m n. h .injective a b i (back a i (snoc-cases (s .types) m)) (back b i (snoc-cases (s .types) n));
     handles = λ k i m. handles k i (snoc-cases (s .types) m);
     settled = λ a i m. settled a i (h .settled a i (back a i (snoc-cases (s .types) m)));
-    spelt = λ d m t. spelt-more (s .types) e d (h .spelt d m t);
+    spelt = λ d m t. plain-more (s .types) e (s .constants .composites) d (h .spelt d m t);
     constants = h .constants;
     formed = h .formed;
   }
@@ -278,7 +359,7 @@ module _ (start : ℕ) where
   pub declare-sound : (r id : ℕ) (P : List (ℕ × ℕ)) (s : State) (cs : List ℕ) (d : Instruction) → d .result ≡ some id → Formed d → Sized (s .last) d → needs d ≡ cs
       → ((u : ℕ) → List·Memᴰ u (uses d) → 1 ≤ times u (s .declarations))
       → ((j : Instruction) → List·Memᴰ j (s .declarations) → EqualTypes j d → ⊥)
-      → (T (plainType (d .opcode)) → Spelt (s .types) d)
+      → (T (plainType (d .opcode)) → Spelt (s .types) d ⊎ Routine (s .constants .composites) d)
       → ((l : Shape) → List·Memᴰ (shape l, id) (s .types) → rankOf l ≡ r → Settled (s .types) (s .declarations ++ d ∷ []) l id)
       → Sound start ((r, id) ∷ P) s → Sound start P (declareWith cs d s)
   declare-sound r id P s cs d e fd fits nc used alone spells settles h = record {
@@ -288,6 +369,7 @@ module _ (start : ℕ) where
     caps = λ c. let q = h .caps c in let p = listed-count c cs (s .capabilities) (omega arith) in omega (arith, needed-snoc c (s .declarations) d, ap (λ (xs : List ℕ). occurrences c xs) nc);
     names = h .names;
     annotations = h .annotations;
+    routines = λ c i t m. Memᴰ·append-left (d ∷ []) (h .routines c i t m);
     bounded = h .bounded;
     unique = h .unique;
     injective = h .injective;
@@ -310,7 +392,7 @@ module _ (start : ℕ) where
       formed j (inl m) = h .formed j m
       formed j (inr q) = rw q (record { formed = fd; id = id; result = e; fits = fits })
 
-      spelt : (j : Instruction) → List·Memᴰ j (s .declarations) ⊎ (j ≡ d) → T (plainType (j .opcode)) → Spelt (s .types) j
+      spelt : (j : Instruction) → List·Memᴰ j (s .declarations) ⊎ (j ≡ d) → T (plainType (j .opcode)) → Spelt (s .types) j ⊎ Routine (s .constants .composites) j
       spelt j (inl m) t = h .spelt j m t
       spelt j (inr q) t = rw q (spells (rw q at t))
 
@@ -326,23 +408,83 @@ module _ (start : ℕ) where
       declare-sound 9 id P s [] d e fd fits free used (λ j m t. other (rw (← t .opcode) (t .plain))) (λ t. absurd (other t)) (λ l m q. absurd (omega (arith, facts l .shallow))) h
 
   -- the tables of constants are replaced by others that hold declared ids
-  pub constants-sound : (c : Constants) (P : List (ℕ × ℕ)) (s : State) → Held c (s .declarations) → Sound start P s → Sound start P (withConstants c s)
-  constants-sound c P s held h = record {
+  pub constants-sound : (c : Constants) (P : List (ℕ × ℕ)) (s : State) → Held c (s .declarations)
+      → ((x : Composite) (i : ℕ) → List·Memᴰ (x, i) (s .constants .composites) → List·Memᴰ (x, i) (c .composites))
+      → ((x : Composite) (i : ℕ) → T (isRoutine x) → List·Memᴰ (x, i) (c .composites) → List·Memᴰ (x, i) (s .constants .composites))
+      → Sound start P s → Sound start P (withConstants c s)
+  constants-sound c P s held more back h = record {
     ids = h .ids;
     above = h .above;
     apart = h .apart;
     caps = h .caps;
     names = h .names;
     annotations = h .annotations;
+    routines = λ x i t m. h .routines x i t (back x i t m);
     bounded = h .bounded;
     unique = h .unique;
     injective = h .injective;
     handles = h .handles;
     settled = h .settled;
-    spelt = h .spelt;
+    spelt = λ d m t. plain-later (s .types) (s .constants .composites) (c .composites) d more (h .spelt d m t);
     constants = held;
     formed = h .formed;
   }
+
+  -- a function type or void takes its id, is declared and entered
+  pub routine-sound : (c : Composite) (P : List (ℕ × ℕ)) (s : State) → T (isRoutine c) → ((i : ℕ) → List·Memᴰ (c, i) (s .constants .composites) → ⊥)
+      → Formed (routineOf c (suc (s .last))) → Sized (suc (s .last)) (routineOf c (suc (s .last)))
+      → ((u : ℕ) → List·Memᴰ u (uses (routineOf c (suc (s .last)))) → 1 ≤ times u (s .declarations)) → Sound start P s
+      → Sound start P (orNewType none c (routineOf c) s .state)
+  routine-sound c P s is new fd fits used h = record {
+    ids = λ i. omega (arith, h .ids i, upTo-suc (s .last) i, times-snoc i (s .declarations) d, ap (λ (o : Option ℕ). once o i) e);
+    above = above-snoc [] (s .declarations) d (h .above) (λ t. used);
+    apart = equal-types-snoc (s .declarations) d (h .apart) (λ j n t. alone j t (h .spelt j n (t .plain)));
+    caps = λ c′. let q = h .caps c′ in let p = listed-count c′ [] (s .capabilities) (omega arith) in omega (arith, needed-snoc c′ (s .declarations) d, ap (λ (xs : List ℕ). occurrences c′ xs) (routine-free c (suc (s .last))));
+    names = notes-up start (s .last) (s .names) (h .names);
+    annotations = notes-up start (s .last) (s .annotations) (h .annotations);
+    bounded = λ k i m. omega (arith, h .bounded k i m);
+    unique = h .unique;
+    injective = h .injective;
+    handles = λ k i m. later i (s .declarations) d (h .handles k i m);
+    settled = λ l i m. settled l i (h .settled l i m);
+    spelt = λ j m t. spelt j t (snoc-cases (s .declarations) m);
+    routines = λ x i t m. routines x i t (snoc-cases (s .constants .composites) m);
+    constants = record {
+      literals = λ a i m. later i (s .declarations) d (h .constants .literals a i m);
+      composites = declared-snoc (s .constants .composites) (s .declarations ++ d ∷ []) c (suc (s .last)) (λ a i m. later i (s .declarations) d (h .constants .composites a i m)) (omega (arith, times-snoc (suc (s .last)) (s .declarations) d, ap (λ (o : Option ℕ). once o (suc (s .last))) e, same-itself (suc (s .last))));
+      nulls = λ a i m. later i (s .declarations) d (h .constants .nulls a i m);
+      values = λ v m. (later (v .id) (s .declarations) d (h .constants .values v m .0), h .constants .values v m .1);
+    };
+    formed = λ j m. formed j (snoc-cases (s .declarations) m);
+  }
+    where
+      d : Instruction
+      d = routineOf c (suc (s .last))
+
+      e : routineOf c (suc (s .last)) .result ≡ some (suc (s .last))
+      e = routine-result c (suc (s .last))
+
+      alone : (j : Instruction) → EqualTypes j (routineOf c (suc (s .last))) → Spelt (s .types) j ⊎ Routine (s .constants .composites) j → ⊥
+      alone j t (inl p) = not-shape (p .l) c (suc (s .last)) is (sym (t .opcode) ∙ ap (λ (x : Instruction). x .opcode) (p .spells))
+      alone j t (inr r) =
+          let q : r .c ≡ c = routine-same (r .c) c (r .id) (suc (s .last)) (r .is) is (sym (ap (λ (x : Instruction). x .opcode) (r .spells)) ∙ t .opcode) (sym (ap (λ (x : Instruction). x .operands) (r .spells)) ∙ t .operands) in
+          new (r .id) (rw q at (r .entered))
+
+      settled : (l : Shape) (i : ℕ) → List·Memᴰ (rankOf l, i) P ⊎ Settled (s .types) (s .declarations) l i → List·Memᴰ (rankOf l, i) P ⊎ Settled (s .types) (s .declarations ++ routineOf c (suc (s .last)) ∷ []) l i
+      settled l i (inl p) = inl p
+      settled l i (inr p) = inr (settled-later (s .types) (s .declarations) (routineOf c (suc (s .last))) l i p)
+
+      spelt : (j : Instruction) → T (plainType (j .opcode)) → List·Memᴰ j (s .declarations) ⊎ (j ≡ routineOf c (suc (s .last))) → Spelt (s .types) j ⊎ Routine (s .constants .composites ++ (c, suc (s .last)) ∷ []) j
+      spelt j t (inl m) = plain-later (s .types) (s .constants .composites) (s .constants .composites ++ (c, suc (s .last)) ∷ []) j (λ x i q. Memᴰ·append-left ((c, suc (s .last)) ∷ []) q) (h .spelt j m t)
+      spelt j t (inr q) = inr (record { c = c; id = suc (s .last); is = is; spells = q; entered = last-in (s .constants .composites) (c, suc (s .last)) })
+
+      routines : (x : Composite) (i : ℕ) → T (isRoutine x) → List·Memᴰ (x, i) (s .constants .composites) ⊎ (Path (Composite × ℕ) (x, i) (c, suc (s .last))) → List·Memᴰ (routineOf x i) (s .declarations ++ routineOf c (suc (s .last)) ∷ [])
+      routines x i t (inl m) = Memᴰ·append-left (routineOf c (suc (s .last)) ∷ []) (h .routines x i t m)
+      routines x i t (inr q) = rw (ap (λ (y : Composite × ℕ). y .0) q, ap (λ (y : Composite × ℕ). y .1) q) (last-in (s .declarations) (routineOf c (suc (s .last))))
+
+      formed : (j : Instruction) → List·Memᴰ j (s .declarations) ⊎ (j ≡ routineOf c (suc (s .last))) → Declaration (suc (s .last)) j
+      formed j (inl m) = declaration-up (s .last) j (h .formed j m)
+      formed j (inr q) = rw q (record { formed = fd; id = suc (s .last); result = e; fits = fits })
 
   pub annotate-sound : (d : Instruction) (P : List (ℕ × ℕ)) (s : State) → Note (s .last) d → ((t : ℕ) → List·Memᴰ t (targets (d ∷ [])) → (start < t) × (t ≤ s .last)) → Sound start P s → Sound start P (annotate d s)
   annotate-sound d P s note on h = record {
@@ -352,6 +494,7 @@ module _ (start : ℕ) where
     caps = h .caps;
     annotations = notes-snoc start (s .last) (s .annotations) d note on (h .annotations);
     names = h .names;
+    routines = h .routines;
     bounded = h .bounded;
     unique = h .unique;
     injective = h .injective;
@@ -370,6 +513,7 @@ module _ (start : ℕ) where
     caps = h .caps;
     names = notes-snoc start (s .last) (s .names) d note on (h .names);
     annotations = h .annotations;
+    routines = h .routines;
     bounded = h .bounded;
     unique = h .unique;
     injective = h .injective;

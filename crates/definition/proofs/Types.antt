@@ -8,7 +8,7 @@ use mathlib.Core.Option.{Option, some, none}
 use mathlib.Core.Bool.{Bool}
 use native.Mathlib.Omega.{arith}
 use native.Mathlib.Decide.{ℕ-discrete}
-use lib.Dec.{lit<, lit≤}
+use lib.Dec.{T, lit<, lit≤}
 use lib.ListN.{length}
 use Rattle.definition.specs.Numbers.{DecorationBlock, DecorationColMajor, DecorationArrayStride, DecorationMatrixStride, DecorationOffset}
 use Rattle.definition.specs.Literals.{u32}
@@ -18,14 +18,14 @@ use Rattle.definition.specs.Sheet.{Member, TypeInner, TypeEntry}
 use Rattle.definition.specs.Sheet.{Scalar, Vector, Matrix, Atomic, Pointer, ValuePointer, Array, Struct, Image, Sampler, AccelerationStructure, RayQuery, BindingArray}
 use Rattle.definition.specs.Tests.{innerTypes, memberTypes}
 use Rattle.definition.specs.Shapes.{Shape, Key, shapeOf, entry, shape}
-use Rattle.definition.specs.State.{State, Got, takeId, enter, annotate}
+use Rattle.definition.specs.State.{Composite, State, Got, takeId, enter, annotate}
 use Rattle.definition.specs.Finding.{find, literal}
 use Rattle.definition.specs.Rules.{innerAt, matrixStride, elementOf, strideMember, labelIf, decorateMember, GotAll, declareMembers, anyDynamic, annotateIf, block, declareArray, declareStruct, declareAggregate, declareInner, declareType}
 use Rattle.definition.specs.WellDeclared.{times, needs}
 use Rattle.definition.proofs.Lists.{last-in, snoc-cases, same-itself}
 use Rattle.definition.proofs.ByShape.{taken}
 use Rattle.definition.proofs.Sizes.{W, Under, under-more}
-use Rattle.definition.proofs.Sound.{Sound, take-sound, entry-sound, other-sound}
+use Rattle.definition.proofs.Sound.{Sound, isRoutine, take-sound, entry-sound, other-sound}
 use Rattle.definition.proofs.Finding.{AllDeclared, one-declared, more-declared, just-declared, Grew, grew-refl, grew-trans, declare-grew, take-grew, Entered, Found, find-found, literal-found, low}
 use Rattle.definition.proofs.Marks.{GoodName, Taken, annotate-grew, annotateIf-grew, labelIf-grew, decorate-sound, member-sound, decorateIf-sound, name-kept, member-name-kept}
 use Rattle.definition.proofs.Inners.{GoodMembers, GoodInner, GoodTypes, SmallStride, member-stride, shape-facts}
@@ -71,6 +71,8 @@ pub record Done (start n : ℕ) (t : TypeEntry) (s u : State) : Type 0 where
   pub values : u .constants .values ≡ s .constants .values
   pub known : Known (suc n) u
   pub told : Told n (shapeOf (t .inner)) (u .types)
+  pub shared : (c : Composite) (i : ℕ) → List·Memᴰ (c, i) (s .constants .composites) → List·Memᴰ (c, i) (u .constants .composites)
+  pub routines : (c : Composite) (i : ℕ) → T (isRoutine c) → List·Memᴰ (c, i) (u .constants .composites) → List·Memᴰ (c, i) (s .constants .composites)
 
 pub told-more : (n : ℕ) (o : Option Shape) (xs ys : List (Key × ℕ)) → ((k : Key) (i : ℕ) → List·Memᴰ (k, i) xs → List·Memᴰ (k, i) ys) → Told n o xs → Told n o ys
 told-more n none xs ys f t = tt
@@ -221,6 +223,8 @@ module _ (start : ℕ) where
         sound = name-kept start id [] debug (t .name) e gn (omega arith) he;
         more = λ k i m. w .more k i (Memᴰ·append-left ((entry n, id) ∷ []) (g .more k i m));
         values = w .values ∙ g .values;
+        shared = λ c i m. w .shared c i (g .shared c i m);
+        routines = λ c i t m. g .routines c i t (w .routines c i t m);
         known = known-more (known-suc n id s u k g) w;
         told = told-more n (shapeOf (t .inner)) (e .types) (labelIf debug (name id) (t .name) e .types) (w .more) told;
       }

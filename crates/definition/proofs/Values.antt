@@ -1,33 +1,34 @@
--- Declaring a constant or a global keeps the state sound: each takes its id, finds what it names, and is declared under that id.
--- The rules are chains of operations, so each proof is the chain of their lemmas, with `Grew` carrying over what was there before.
+-- Declaring a function type, a constant or a global keeps the state sound: each takes its id, finds what it names, and is declared
+-- under that id. The rules are chains of operations, so each proof is the chain of their lemmas, with `Grew` carrying over what was
+-- there before. A function record adds to the shared types alone (`Aside`), and void to them only where it returns void (`VoidsFor`).
 use Prim.Native.Nat.{ℕ, suc, zero, _/_, _%_, _<_, _≤_}
-use mathlib.Core.Path.{_≡_, refl, ap, _∙_}
-use mathlib.Core.Logic.{_⊎_, inl, inr}
-use mathlib.Core.List.{List, [], _∷_, List·Memᴰ, List·Memᴰ·head, List·Memᴰ·tail, List·Memᴰ·not-nil, List·Memᴰ·cases-cons, List·Memᴰ·eq-of-singleton}
+use mathlib.Core.Path.{_≡_, refl, ap, _∙_, subst}
+use mathlib.Core.Logic.{_⊎_, inl, inr, ⊎-elim}
+use mathlib.Core.List.{List, [], _∷_, _++_, List·Memᴰ, List·Memᴰ·head, List·Memᴰ·tail, List·Memᴰ·not-nil, List·Memᴰ·cases-cons, List·Memᴰ·eq-of-singleton, Memᴰ·append-left, Memᴰ·append-right}
 use mathlib.Core.Option.{Option, some, none}
 use mathlib.Core.Bool.{Bool, true, false, _&&_}
 use native.Mathlib.Omega.{arith}
 use native.Mathlib.Decide.{ℕ-discrete}
-use lib.Dec.{eqb, lit<, lit≤}
+use lib.Dec.{T, eqb, lit<, lit≤}
 use lib.ListN.{length, replicate, length-replicate, length-append}
 use Rattle.definition.specs.Choice.{orElse}
 use Rattle.definition.specs.Numbers.{DecorationBlock, DecorationNonWritable, DecorationNonReadable, DecorationBinding, DecorationDescriptorSet}
-use Rattle.definition.specs.Instructions.{optional, name, decorate, typeStruct, typePointer, constantComposite, constantNull, variable}
+use Rattle.definition.specs.Instructions.{optional, name, decorate, typeStruct, typePointer, typeFunction, constantComposite, constantNull, variable}
 use Rattle.definition.specs.Reader.{uses}
-use Rattle.definition.specs.Sheet.{Options, Member, TypeInner, TypeEntry, Expression, Global, Remap, storageSpace}
+use Rattle.definition.specs.Sheet.{Options, Member, TypeInner, TypeEntry, Function, Expression, Global, Remap, storageSpace}
 use Rattle.definition.specs.Sheet.{Scalar, Vector, Matrix, Atomic, Pointer, ValuePointer, Array, Struct, Image, Sampler, AccelerationStructure, RayQuery, BindingArray}
 use Rattle.definition.specs.Sheet.{Value, Alias, ZeroValue, Compose, Splat}
-use Rattle.definition.specs.Tests.{Seen, innerTypes, expressionTypes, expressionConstants, initList}
-use Rattle.definition.specs.Shapes.{Kind, Key, storageClass, rank, bool, vector, pointer, bindingPointer, entry, shape}
-use Rattle.definition.specs.State.{Valued, Composite, composite, sameComposite, State, lookup, takeId, annotate, declareAlone}
+use Rattle.definition.specs.Tests.{Seen, innerTypes, expressionTypes, initList, expressionConstants}
+use Rattle.definition.specs.Shapes.{Kind, Key, sameKey, storageClass, rank, bool, vector, pointer, bindingPointer, entry, shape}
+use Rattle.definition.specs.State.{Composite, composite, function as functionKey, void, sameComposite, Valued, Constants, State, Got, lookup, takeId, annotate, declareAlone, entryId, entryIds}
 use Rattle.definition.specs.Finding.{find, enterComposite, enterNull, compositeOf, orNewNull, nullOf}
-use Rattle.definition.specs.Rules.{innerAt, labelIf, annotateIf, block, noValue, valueAt, idsOf, kindOfScalar, GotValue, constantOf, enterValue, declareConstant, accessOf, decorateAccess, decorateBinding, isBound, needsWrapper, bindingBase, remapOf, PointerForm, direct, inWrapper, remapped, remappedForm, pointerFormOf, wrap, decorateMember, pointerOf, blockBase, getsNull, GotInit, initFor, declareGlobal}
+use Rattle.definition.specs.Rules.{innerAt, labelIf, annotateIf, block, orNewType, sharedType, resultOf, declareFunction, noValue, valueAt, idsOf, kindOfScalar, GotValue, constantOf, enterValue, declareConstant, accessOf, decorateAccess, decorateBinding, isBound, needsWrapper, bindingBase, remapOf, PointerForm, direct, inWrapper, remapped, remappedForm, pointerFormOf, wrap, decorateMember, pointerOf, blockBase, getsNull, GotInit, initFor, declareGlobal}
 use Rattle.definition.specs.WellDeclared.{times, needs}
 use Rattle.definition.proofs.Truth.{pick-for}
-use Rattle.definition.proofs.Lists.{snoc-cases, same-itself, lookup-in, getD-in}
-use Rattle.definition.proofs.ByShape.{taken}
-use Rattle.definition.proofs.Sizes.{W, under-more, SmallKind}
-use Rattle.definition.proofs.Sound.{Sound, SmallOption, declared-snoc, take-sound, other-sound, constants-sound}
+use Rattle.definition.proofs.Lists.{last-in, snoc-cases, same-itself, lookup-in, lookup-out, getD-in}
+use Rattle.definition.proofs.ByShape.{Formed, taken}
+use Rattle.definition.proofs.Sizes.{W, Sized, under-more, SmallKind}
+use Rattle.definition.proofs.Sound.{Sound, isRoutine, routineOf, routine-sound, SmallOption, declared-snoc, take-sound, other-sound, constants-sound}
 use Rattle.definition.proofs.Finding.{GotId, AllDeclared, Writes, Keeps, SmallLiteral, one-declared, more-declared, just-declared, Grew, grew-refl, grew-trans, declare-grew, take-grew, constants-grew, Over, Entered, Grounded, free-grounded, Found, Finds, find-found, value-found, literal-found, low, small-literal-kind}
 use Rattle.definition.proofs.Marks.{GoodName, Taken, annotate-grew, annotateIf-grew, labelIf-grew, decorate-sound, decorateIf-sound, name-kept}
 use Rattle.definition.proofs.Inners.{GoodInner, GoodTypes, class-small, kind-small}
@@ -132,11 +133,119 @@ only-one m e = rw (List·Memᴰ·eq-of-singleton m) e
 entered-more : {s t : State} {h : ℕ} → Grew s t → Entered (s .types) h → Entered (t .types) h
 entered-more {h = h} g e = (e .0, g .more (entry h) (e .0) (e .1))
 
-composite-keeps : (v : Composite) → Keeps (enterComposite v)
-composite-keeps v = record {
-  held = λ id c ds h old. record { literals = h .literals; composites = declared-snoc (c .composites) ds v id (h .composites) old; nulls = h .nulls; values = h .values };
+composite-keeps : (k : Key) (xs : List ℕ) → Keeps (enterComposite (composite k xs))
+composite-keeps k xs = record {
+  held = λ id c ds h old. record { literals = h .literals; composites = declared-snoc (c .composites) ds (composite k xs) id (h .composites) old; nulls = h .nulls; values = h .values };
   values = λ id c. refl;
+  more = λ id c x i m. Memᴰ·append-left ((composite k xs, id) ∷ []) m;
+  back = λ id c x i t m. back id c x i t (snoc-cases (c .composites) m);
 }
+  where
+    back : (id : ℕ) (c : Constants) (x : Composite) (i : ℕ) → T (isRoutine x) → List·Memᴰ (x, i) (c .composites) ⊎ (Path (Composite × ℕ) (x, i) (composite k xs, id)) → List·Memᴰ (x, i) (c .composites)
+    back id c x i t (inl m) = m
+    back id c x i t (inr q) = absurd (subst (λ (y : Composite). T (isRoutine y)) (ap (λ (y : Composite × ℕ). y .0) q) t)
+
+-- ---- function types
+
+-- a function record enters no type or constant of the sheet, and what is shared stays so
+pub record Aside (s t : State) : Type 0 where
+  pub types : t .types ≡ s .types
+  pub values : t .constants .values ≡ s .constants .values
+  pub shared : (c : Composite) (i : ℕ) → List·Memᴰ (c, i) (s .constants .composites) → List·Memᴰ (c, i) (t .constants .composites)
+
+aside-refl : (s : State) → Aside s s
+aside-refl s = record { types = refl; values = refl; shared = λ c i m. m }
+
+aside-trans : {s t u : State} → Aside s t → Aside t u → Aside s u
+aside-trans g h = record { types = h .types ∙ g .types; values = h .values ∙ g .values; shared = λ c i m. h .shared c i (g .shared c i m) }
+
+pub read-aside : {m n : ℕ} {s t : State} → Aside s t → Read m n s → Read m n t
+read-aside g r = record {
+  types = record { all = λ h l. rw (g .types) (r .types .all h l); only = λ h i m. r .types .only h i (rw (g .types) at m) };
+  constants = ap length (g .values) ∙ r .constants;
+}
+
+-- void was entered before, or for a reason
+abbrev pub VoidsFor : Type 0 → State → State → Type 0
+VoidsFor A s t = (i : ℕ) → List·Memᴰ (void, i) (t .constants .composites) → List·Memᴰ (void, i) (s .constants .composites) ⊎ A
+
+-- a function type or void that is found or declared
+pub record GotShared (start : ℕ) (P : List (ℕ × ℕ)) (s : State) (c : Composite) (g : Got) : Type 0 where
+  pub sound : Sound start P (g .state)
+  pub aside : Aside s (g .state)
+  pub has : List·Memᴰ (c, g .id) (g .state .constants .composites)
+  pub declared : 1 ≤ times (g .id) (g .state .declarations)
+  pub voids : VoidsFor (void ≡ c) s (g .state)
+
+-- an id is that of a record's return type, and ids are those of its parameters
+abbrev pub ResultIs : Option ℕ → State → ℕ → Type 0
+ResultIs none s x = List·Memᴰ (void, x) (s .constants .composites)
+ResultIs (some t) s x = List·Memᴰ (entry t, x) (s .types)
+
+abbrev pub AreIds : List ℕ → State → List ℕ → Type 0
+AreIds [] s [] = Unit
+AreIds [] s (x ∷ xs) = ⊥
+AreIds (t ∷ ts) s [] = ⊥
+AreIds (t ∷ ts) s (x ∷ xs) = List·Memᴰ (entry t, x) (s .types) × AreIds ts s xs
+
+-- what a record returns
+pub record GotResult (start : ℕ) (o : Option ℕ) (s : State) (g : Got) : Type 0 where
+  pub sound : Sound start [] (g .state)
+  pub aside : Aside s (g .state)
+  pub declared : 1 ≤ times (g .id) (g .state .declarations)
+  pub is : ResultIs o (g .state) (g .id)
+  pub voids : VoidsFor (o ≡ none) s (g .state)
+
+-- the function type of a record is entered
+pub record Signed (f : Function) (s : State) : Type 0 where
+  pub result : ℕ
+  pub parameters : List ℕ
+  pub id : ℕ
+  pub returns : ResultIs (f .result) s result
+  pub takes : AreIds (f .parameters) s parameters
+  pub has : List·Memᴰ (functionKey (result ∷ parameters), id) (s .constants .composites)
+
+-- what is entered stays so
+pub record Stays (s t : State) : Type 0 where
+  pub more : (k : Key) (i : ℕ) → List·Memᴰ (k, i) (s .types) → List·Memᴰ (k, i) (t .types)
+  pub shared : (c : Composite) (i : ℕ) → List·Memᴰ (c, i) (s .constants .composites) → List·Memᴰ (c, i) (t .constants .composites)
+
+result-stays : {s t : State} → Stays s t → (o : Option ℕ) (x : ℕ) → ResultIs o s x → ResultIs o t x
+result-stays g none x m = g .shared void x m
+result-stays g (some h) x m = g .more (entry h) x m
+
+ids-stay : {s t : State} → Stays s t → (ts xs : List ℕ) → AreIds ts s xs → AreIds ts t xs
+ids-stay g [] [] a = tt
+ids-stay g [] (x ∷ xs) a = a
+ids-stay g (t ∷ ts) [] a = a
+ids-stay g (t ∷ ts) (x ∷ xs) a = (g .more (entry t) x (a .0), ids-stay g ts xs (a .1))
+
+pub aside-stays : {s t : State} → Aside s t → Stays s t
+aside-stays g = record { more = λ k i m. rw (g .types) m; shared = g .shared }
+
+pub signed-stays : {s t : State} → Stays s t → (f : Function) → Signed f s → Signed f t
+signed-stays g f h = record {
+  result = h .result;
+  parameters = h .parameters;
+  id = h .id;
+  returns = result-stays g (f .result) (h .result) (h .returns);
+  takes = ids-stay g (f .parameters) (h .parameters) (h .takes);
+  has = g .shared (functionKey (h .result ∷ h .parameters)) (h .id) (h .has);
+}
+
+-- a constant, declared
+pub record ConstantKept (start m n : ℕ) (s t : State) : Type 0 where
+  pub sound : Sound start [] t
+  pub read : Read m (suc n) t
+  pub stays : Stays s t
+  pub routines : (c : Composite) (i : ℕ) → T (isRoutine c) → List·Memᴰ (c, i) (t .constants .composites) → List·Memᴰ (c, i) (s .constants .composites)
+
+-- a function record, declared
+pub record FunctionKept (start : ℕ) (f : Function) (s t : State) : Type 0 where
+  pub sound : Sound start [] t
+  pub aside : Aside s t
+  pub signed : Signed f t
+  pub voids : VoidsFor (f .result ≡ none) s t
 
 module _ (start : ℕ) where
   finds : Finds start 9 find
@@ -162,7 +271,7 @@ module _ (start : ℕ) where
   composite-found k xs s few old deep gr h =
       value-found start 9 find finds (lookup sameComposite (composite k xs) (s .constants .composites)) k (λ t id. constantComposite t id xs) (enterComposite (composite k xs)) s []
       (λ i e. h .constants .composites (composite k xs) i (lookup-in sameComposite (composite k xs) (s .constants .composites) i e))
-      (composite-writes xs [] s few old h) (composite-keeps (composite k xs)) tt gr deep h
+      (composite-writes xs [] s few old h) (composite-keeps k xs) tt gr deep h
 
   null-found : (t : ℕ) (s : State) (P : List (ℕ × ℕ)) → 1 ≤ times t (s .declarations) → Sound start P s → GotId start P s (nullOf t s)
   unfolding nullOf uses needs
@@ -179,8 +288,8 @@ module _ (start : ℕ) where
           (record { words = λ B p q. (omega (arith, low start P s t h old), (omega arith, tt)); short = lit< tt }) (λ t. t) refl (one-declared t (takeId s) old) (take-sound start 9 P s h) in
           let c = u .constants in
           record {
-            sound = constants-sound start (enterNull t id c) P u (record { literals = hu .constants .literals; composites = hu .constants .composites; nulls = declared-snoc (c .nulls) (u .declarations) t id (hu .constants .nulls) new; values = hu .constants .values }) hu;
-            grew = grew-trans (take-grew s) (grew-trans (declare-grew d (takeId s)) (constants-grew (enterNull t id c) u refl));
+            sound = constants-sound start (enterNull t id c) P u (record { literals = hu .constants .literals; composites = hu .constants .composites; nulls = declared-snoc (c .nulls) (u .declarations) t id (hu .constants .nulls) new; values = hu .constants .values }) (λ x i m. m) (λ x i t m. m) hu;
+            grew = grew-trans (take-grew s) (grew-trans (declare-grew d (takeId s)) (constants-grew (enterNull t id c) u refl (λ x i m. m) (λ x i t m. m)));
             declared = new;
           }
 
@@ -231,11 +340,88 @@ module _ (start : ℕ) where
 
   value-entered : (v : Valued) (s : State) → 1 ≤ times (v .id) (s .declarations) → SmallOption (v .kind) → Sound start [] s → Sound start [] (enterValue v s)
   value-entered v s old small h =
-      constants-sound start (enterValue v s .constants) [] s (record { literals = h .constants .literals; composites = h .constants .composites; nulls = h .constants .nulls; values = λ w m. go w (snoc-cases (s .constants .values) m) }) h
+      constants-sound start (enterValue v s .constants) [] s (record { literals = h .constants .literals; composites = h .constants .composites; nulls = h .constants .nulls; values = λ w m. go w (snoc-cases (s .constants .values) m) }) (λ x i m. m) (λ x i t m. m) h
     where
       go : (w : Valued) → List·Memᴰ w (s .constants .values) ⊎ (w ≡ v) → (1 ≤ times (w .id) (s .declarations)) × SmallOption (w .kind)
       go w (inl m) = h .constants .values w m
       go w (inr e) = rw e (old, small)
+
+  -- ---- function types
+
+  -- one that is found or declared
+  shared-got : (c : Composite) (P : List (ℕ × ℕ)) (s : State) → T (isRoutine c) → Formed (routineOf c (suc (s .last))) → Sized (suc (s .last)) (routineOf c (suc (s .last)))
+      → ((u : ℕ) → List·Memᴰ u (uses (routineOf c (suc (s .last)))) → 1 ≤ times u (s .declarations)) → Sound start P s → GotShared start P s c (sharedType c (routineOf c) s)
+  unfolding sharedType
+  shared-got c P s is fd fits used h = go (lookup sameComposite c (s .constants .composites)) refl
+    where
+      go : (o : Option ℕ) → lookup sameComposite c (s .constants .composites) ≡ o → GotShared start P s c (orNewType o c (routineOf c) s)
+      go (some i) e = let m = lookup-in sameComposite c (s .constants .composites) i e in record { sound = h; aside = aside-refl s; has = m; declared = h .constants .composites c i m; voids = λ j n. inl n }
+      go none e =
+          let id = suc (s .last) in
+          let hv = routine-sound start c P s is (lookup-out sameComposite c (s .constants .composites) e) fd fits used h in
+          let has = last-in (s .constants .composites) (c, id) in
+          record {
+            sound = hv;
+            aside = record { types = refl; values = refl; shared = λ x i m. Memᴰ·append-left ((c, id) ∷ []) m };
+            has = has;
+            declared = hv .constants .composites c id has;
+            voids = λ j m. ⊎-elim inl (λ q. inr (ap (λ (y : Composite × ℕ). y .0) q)) (snoc-cases (s .constants .composites) m);
+          }
+
+  entry-id : (t : ℕ) (s : State) → Entered (s .types) t → List·Memᴰ (entry t, entryId s t) (s .types)
+  entry-id t s e = go (lookup sameKey (entry t) (s .types)) refl
+    where
+      go : (a : Option ℕ) → lookup sameKey (entry t) (s .types) ≡ a → List·Memᴰ (entry t, orElse 0 a) (s .types)
+      go none f = absurd (lookup-out sameKey (entry t) (s .types) f (e .0) (e .1))
+      go (some i) f = lookup-in sameKey (entry t) (s .types) i f
+
+  entry-ids : (ts : List ℕ) (s : State) → ((t : ℕ) → List·Memᴰ t ts → Entered (s .types) t) → AreIds ts s (entryIds s ts) × (length (entryIds s ts) ≡ length ts)
+  unfolding entryIds
+  entry-ids [] s k = (tt, refl)
+  entry-ids (t ∷ ts) s k = let q = entry-ids ts s (λ u m. k u (List·Memᴰ·tail m)) in ((entry-id t s (k t (List·Memᴰ·head refl)), q .0), ap suc (q .1))
+
+  ids-declared : (ts xs : List ℕ) (s : State) (P : List (ℕ × ℕ)) → AreIds ts s xs → Sound start P s → AllDeclared xs s
+  ids-declared [] [] s P a h = λ u m. absurd (List·Memᴰ·not-nil m)
+  ids-declared [] (x ∷ xs) s P a h = absurd a
+  ids-declared (t ∷ ts) [] s P a h = absurd a
+  ids-declared (t ∷ ts) (x ∷ xs) s P a h = more-declared x xs s (h .handles t x (a .0)) (ids-declared ts xs s P (a .1) h)
+
+  result-got : (o : Option ℕ) (s : State) → ((t : ℕ) → List·Memᴰ t (initList o) → Entered (s .types) t) → Sound start [] s → GotResult start o s (resultOf o s)
+  unfolding uses
+  result-got none s k h =
+      let r = shared-got void [] s tt (taken tt) (record { words = λ B p q. (omega arith, tt); short = lit< tt }) (λ u m. absurd (List·Memᴰ·not-nil m)) h in
+      record { sound = r .sound; aside = r .aside; declared = r .declared; is = r .has; voids = λ i m. inr refl }
+  result-got (some t) s k h =
+      let m = entry-id t s (k t (List·Memᴰ·head refl)) in
+      record { sound = h; aside = aside-refl s; declared = h .handles t (entryId s t) m; is = m; voids = λ i n. inl n }
+
+  pub function-kept : (ts : List TypeEntry) (f : Function) (s : State) → length (f .parameters) ≤ 255 → ((t : ℕ) → List·Memᴰ t (initList (f .result) ++ f .parameters) → t < length ts) → Known (length ts) s → Sound start [] s
+      → FunctionKept start f s (declareFunction f s)
+  unfolding declareFunction uses
+  function-kept ts f s few refs k h =
+      let r = resultOf (f .result) s in
+      let q = result-got (f .result) s (λ t m. k .all t (refs t (Memᴰ·append-left (f .parameters) m))) h in
+      let xs = entryIds (r .state) (f .parameters) in
+      let p = entry-ids (f .parameters) (r .state) (λ t m. rw (q .aside .types) (k .all t (refs t (Memᴰ·append-right (initList (f .result)) m)))) in
+      let ids = r .id ∷ xs in
+      let old : AllDeclared ids (r .state) = more-declared (r .id) xs (r .state) (q .declared) (ids-declared (f .parameters) xs (r .state) [] (p .0) (q .sound)) in
+      let c = functionKey ids in
+      let g = shared-got c [] (r .state) tt (taken tt)
+      (record { words = λ B w l. (omega arith, under-more (r .state .last) B ids (omega arith) (under-declared start [] (r .state) ids (q .sound) old)); short = omega (arith, p .1) }) old (q .sound) in
+      let w = aside-stays (g .aside) in
+      record {
+        sound = g .sound;
+        aside = aside-trans (q .aside) (g .aside);
+        signed = record {
+          result = r .id;
+          parameters = xs;
+          id = sharedType c (λ i. typeFunction i ids) (r .state) .id;
+          returns = result-stays w (f .result) (r .id) (q .is);
+          takes = ids-stay w (f .parameters) xs (p .0);
+          has = g .has;
+        };
+        voids = λ i m. ⊎-elim (q .voids i) (λ e. let z : _≡_ {A = ℕ} 0 1 = cc in absurd (omega arith)) (g .voids i m);
+      }
 
   -- ---- globals
 
@@ -390,13 +576,15 @@ module _ (start : ℕ) where
       value-declared s h c l = h .constants .values (valueAt s c) (getD-in (s .constants .values) c noValue l) .0
 
   pub constant-kept : (ts : List TypeEntry) (n : ℕ) (e : Expression) (s : State) → GoodTypes ts → GoodExpression e → ((t : ℕ) → List·Memᴰ t (expressionTypes e) → t < length ts) → ((c : ℕ) → List·Memᴰ c (expressionConstants e) → c < n)
-      → Read (length ts) n s → Sound start [] s → Sound start [] (declareConstant ts e s) × Read (length ts) (suc n) (declareConstant ts e s) × ((k : Key) (i : ℕ) → List·Memᴰ (k, i) (s .types) → List·Memᴰ (k, i) (declareConstant ts e s .types))
+      → Read (length ts) n s → Sound start [] s → ConstantKept start (length ts) n s (declareConstant ts e s)
   unfolding declareConstant
   constant-kept ts n e s gs g rt rc rd h =
       let q = constant-found ts n s gs rd h e g rt rc in
       let v = constantOf ts e s in
-      let r = read-more (q .grew) rd in (
-        value-entered (v .value) (v .state) (q .declared) (q .kind) (q .sound),
-        record { types = record { all = r .types .all; only = r .types .only }; constants = omega (arith, length-append (v .state .constants .values) (v .value ∷ []), r .constants) },
-        q .grew .more,
-      )
+      let r = read-more (q .grew) rd in
+      record {
+        sound = value-entered (v .value) (v .state) (q .declared) (q .kind) (q .sound);
+        read = record { types = record { all = r .types .all; only = r .types .only }; constants = omega (arith, length-append (v .state .constants .values) (v .value ∷ []), r .constants) };
+        stays = record { more = q .grew .more; shared = q .grew .shared };
+        routines = q .grew .routines;
+      }

@@ -2,19 +2,20 @@
 -- without its closing zero.
 use Prim.Native.Nat.{ℕ}
 use mathlib.Core.Path.{_≡_, refl, sym, _∙_}
-use mathlib.Core.List.{List, [], _∷_, List·Memᴰ·head}
-use mathlib.Core.Option.{some, none}
+use mathlib.Core.Bool.{true, false}
+use mathlib.Core.List.{List, [], _∷_, List·Memᴰ·head, List·Memᴰ·tail, List·Memᴰ·not-nil}
+use mathlib.Core.Option.{Option, some, none}
 use native.Mathlib.Decide.{ℕ-discrete}
 use native.Mathlib.Omega.{arith}
 use lib.Dec.{T, lit<}
-use Rattle.definition.specs.Instructions.{Instruction, capability, typeFloat, typeInt, typeVector, typeMatrix, typeImage, decorate}
+use Rattle.definition.specs.Instructions.{Instruction, capability, typeVoid, typeFloat, typeInt, typeVector, typeMatrix, typeImage, typeFunction, decorate}
 use Rattle.definition.specs.Numbers.{CapabilityFloat16, CapabilityFloat64, CapabilityInt8, CapabilitySampled1D, CapabilityImage1D, CapabilityStorageImageExtendedFormats, DecorationArrayStride, Dim1D, Dim2D, ImageFormatUnknown, ImageFormatR32f, ImageFormatRg32f}
 use Rattle.definition.specs.Reader.{uses, readModule, readAll, isString}
-use Rattle.definition.specs.ReadTypes.{declarationOf, readScalar, readVector, readType}
+use Rattle.definition.specs.ReadTypes.{declarationOf, readScalar, readVector, readType, readVoid, readFunction}
 use Rattle.definition.specs.Shapes.{Key, Shape, entry, scalar, matrix, image, sint, uint, float, kindOf, imageOf, shapeOf, sameKey}
-use Rattle.definition.specs.Sheet.{TypeInner, TypeEntry, Scalar, Atomic, Matrix, Image}
-use Rattle.definition.specs.State.{State, occurrences, lookup}
-use Rattle.definition.specs.WellDeclared.{WellDeclared, EntriesDeclared, plainEntry, times, targets, targetOf, needs, needed, listedIn, listedBy}
+use Rattle.definition.specs.Sheet.{TypeInner, TypeEntry, Function, Scalar, Atomic, Matrix, Image}
+use Rattle.definition.specs.State.{Composite, function, void, sameNumbers, sameComposite, State, occurrences, lookup, entryIds}
+use Rattle.definition.specs.WellDeclared.{WellDeclared, EntriesDeclared, FunctionsDeclared, plainEntry, times, targets, targetOf, needs, needed, listedIn, listedBy}
 
 -- numbers handed out for entries that are not declared
 missing : WellDeclared 0 2 [] → ⊥
@@ -39,6 +40,23 @@ early h = omega (arith, h .above .0 tt 2 (List·Memᴰ·head refl))
 -- one type under two ids
 one-type-twice : WellDeclared 0 3 (typeFloat 1 32 ∷ typeFloat 2 32 ∷ []) → ⊥
 one-type-twice h = h .no-equal-types .0 (typeFloat 2 32) (List·Memᴰ·head refl) (record { plain = tt; opcode = refl; operands = refl })
+
+-- void under two ids (paper 2)
+two-voids : WellDeclared 0 3 (typeVoid 1 ∷ typeVoid 2 ∷ []) → ⊥
+two-voids h = h .no-equal-types .0 (typeVoid 2) (List·Memᴰ·head refl) (record { plain = tt; opcode = refl; operands = refl })
+
+-- one function type under two ids
+one-function-twice : WellDeclared 0 4 (typeVoid 1 ∷ typeFunction 2 (1 ∷ []) ∷ typeFunction 3 (1 ∷ []) ∷ []) → ⊥
+one-function-twice h = h .no-equal-types .1 .0 (typeFunction 3 (1 ∷ [])) (List·Memᴰ·head refl) (record { plain = tt; opcode = refl; operands = refl })
+
+-- a function type above its return type, and one above its last parameter's type
+early-function : WellDeclared 0 3 (typeFunction 1 (2 ∷ []) ∷ typeVoid 2 ∷ []) → ⊥
+unfolding times uses
+early-function h = omega (arith, h .above .0 tt 2 (List·Memᴰ·head refl))
+
+early-parameter : WellDeclared 0 4 (typeVoid 1 ∷ typeFunction 2 (1 ∷ 3 ∷ []) ∷ typeFloat 3 32 ∷ []) → ⊥
+unfolding times uses
+early-parameter h = omega (arith, h .above .1 .0 tt 3 (List·Memᴰ·tail (List·Memᴰ·head refl)))
 
 -- Int8 is not listed
 unlisted : WellDeclared 0 2 (typeInt 1 8 1 ∷ []) → ⊥
@@ -73,8 +91,11 @@ stray h = omega (arith, h .on-declared 9 (List·Memᴰ·head refl))
 abbrev unnamed : TypeInner → TypeEntry
 unnamed t = record { source = record { tag = 0; body = [] }; name = none; inner = t }
 
+abbrev sharing : List (Key × ℕ) → List (Composite × ℕ) → State
+sharing ks cs = record { last = 2; types = ks; constants = record { literals = []; composites = cs; nulls = []; values = [] }; capabilities = []; names = []; annotations = []; declarations = [] }
+
 abbrev entered : List (Key × ℕ) → State
-entered ks = record { last = 2; types = ks; constants = record { literals = []; composites = []; nulls = []; values = [] }; capabilities = []; names = []; annotations = []; declarations = [] }
+entered ks = sharing ks []
 
 -- two entries of one shape under two ids
 two-ids : (is : List Instruction) → EntriesDeclared (unnamed (Scalar 2 4) ∷ unnamed (Atomic 2 4) ∷ []) (entered ((entry 0, 1) ∷ (entry 1, 2) ∷ [])) is → ⊥
@@ -118,6 +139,38 @@ unfolding imageOf readType readScalar declarationOf
 multisampled-for-depth h =
     let e : image (float 4) Dim2D 1 0 0 1 ImageFormatUnknown ≡ image (float 4) Dim2D 0 0 1 1 ImageFormatUnknown = other-shape (Image 1 0 1 0 0) (image (float 4) Dim2D 1 0 0 1 ImageFormatUnknown) (image (float 4) Dim2D 0 0 1 1 ImageFormatUnknown) (typeFloat 2 32 ∷ typeImage 1 2 Dim2D 0 0 1 1 ImageFormatUnknown ∷ []) refl tt refl h in
     let z : _≡_ {A = ℕ} 1 0 = cc in omega arith
+
+-- ---- function records, and the ids that a state has for them (paper 2)
+
+abbrev returning : Option ℕ → List ℕ → Function
+returning t ps = record { result = t; parameters = ps }
+
+-- a record that takes a float is declared without its parameter
+no-parameter : FunctionsDeclared (returning (some 0) (0 ∷ []) ∷ []) (sharing ((entry 0, 1) ∷ []) ((function (1 ∷ 1 ∷ []), 2) ∷ [])) (typeFloat 1 32 ∷ typeFunction 2 (1 ∷ []) ∷ []) → ⊥
+unfolding lookup sameKey sameComposite sameNumbers ℕ-discrete entryIds readFunction declarationOf
+no-parameter h =
+    let q = h .declared (returning (some 0) (0 ∷ [])) (List·Memᴰ·head refl) in
+    let e : some 2 ≡ some (q .0) = q .1 in
+    let i : 2 ≡ q .0 = cc in
+    let f : _≡_ {A = Option (List ℕ)} (some (1 ∷ [])) (some (1 ∷ 1 ∷ [])) = rw (← i) at (q .2) in
+    let z : _≡_ {A = ℕ} 0 1 = cc in omega arith
+
+-- two records of other types have one id
+one-id-for-two : FunctionsDeclared (returning (some 0) [] ∷ returning (some 0) (0 ∷ []) ∷ []) (sharing ((entry 0, 1) ∷ []) ((function (1 ∷ []), 2) ∷ (function (1 ∷ 1 ∷ []), 2) ∷ [])) (typeFloat 1 32 ∷ typeFunction 2 (1 ∷ []) ∷ []) → ⊥
+unfolding lookup sameKey sameComposite sameNumbers ℕ-discrete entryIds
+one-id-for-two h =
+    let e : _≡_ {A = List ℕ} (1 ∷ []) (1 ∷ 1 ∷ []) = h .shared (returning (some 0) []) (returning (some 0) (0 ∷ [])) 2 2 (List·Memᴰ·head refl) (List·Memᴰ·tail (List·Memᴰ·head refl)) refl refl .0 refl in
+    let z : _≡_ {A = ℕ} 0 1 = cc in omega arith
+
+-- what a record returns for void is a float
+float-for-void : FunctionsDeclared (returning none [] ∷ []) (sharing [] ((void, 1) ∷ (function (1 ∷ []), 2) ∷ [])) (typeFloat 1 32 ∷ typeFunction 2 (1 ∷ []) ∷ []) → ⊥
+unfolding lookup sameComposite readVoid declarationOf
+float-for-void h = let e : false ≡ true = h .returns-void (returning none []) (List·Memᴰ·head refl) refl in let z : _≡_ {A = ℕ} 0 1 = cc in omega arith
+
+-- void is declared, and no record returns it
+void-needless : (s : State) → FunctionsDeclared [] s (typeVoid 1 ∷ []) → ⊥
+unfolding readVoid declarationOf
+void-needless s h = List·Memᴰ·not-nil (h .void-returned 1 refl .1)
 
 -- ---- capabilities of images: a 1D storage image needs Image1D, and Rg32f StorageImageExtendedFormats
 

@@ -1,4 +1,5 @@
--- P1 to P12 of "From sheet to words", with one row of "Seen in class", as rows of one table, proved together by one computed test.
+-- P1 to P12 of "From sheet to words", with one row of "Seen in class" and three of paper 2, as rows of one table, proved together by
+-- one computed test.
 use Prim.Native.Nat.{ℕ}
 use mathlib.Core.Bool.{Bool, true, false, _&&_, Bool·beq}
 use mathlib.Core.List.{List, [], _∷_}
@@ -11,10 +12,10 @@ use Rattle.definition.specs.Finding.{formatCapabilities, dimCapabilities
 use Rattle.definition.specs.Instructions.{words, allWords, packed, put, putCount}
 use Rattle.definition.specs.Literals.{sameLiteral}
 use Rattle.definition.specs.Operations.{recordTest, declareRecord, judged, check, declare, wrapped}
-use Rattle.definition.specs.Rules.{declareMembers, anyDynamic, declareType, idsOf, constantOf, declareConstant, endsDynamic, needsWrapper, remapOf, declareGlobal}
+use Rattle.definition.specs.Rules.{declareMembers, anyDynamic, declareType, idsOf, sharedType, declareFunction, constantOf, declareConstant, endsDynamic, needsWrapper, remapOf, declareGlobal}
 use Rattle.definition.specs.Shapes.{kindOf, formats, sameKey, imageOf}
-use Rattle.definition.specs.Sheet.{recordAt, afterRecord, tagRank, u16sAt, u32sAt, membersAt, membersEnd, typeFields, literalFields, constantFields, globalFields, availableFields, remapFields, entryOf}
-use Rattle.definition.specs.State.{sameNumbers, sameComposite, occurrences, listed, lookup, capabilityInstructions, instructions, moduleWords}
+use Rattle.definition.specs.Sheet.{recordAt, afterRecord, tagRank, u16sAt, u32sAt, membersAt, membersEnd, typeFields, literalFields, functionFields, constantFields, globalFields, availableFields, remapFields, entryOf}
+use Rattle.definition.specs.State.{sameNumbers, sameComposite, occurrences, listed, lookup, capabilityInstructions, instructions, moduleWords, entryIds}
 use Rattle.definition.specs.Tests.{headerTest, add, addRecord, noRecord, placeTest, memberNames, scalarFits, spaceFits, classFits, bindingFits, memberTypes, sameBytes, sameRecord, typeRead, remapRead, entryTest, readingTest, records}
 use Rattle.definition.specs.Unfit.{membersFit, constantFits, globalFits, fitnessTest}
 use Rattle.definition.specs.Utf8.{octets, utf8, noZero}
@@ -100,9 +101,15 @@ rows =
     ∷ refuses (0x01 ∷ 0x00 ∷ 0x00 ∷ 0x00 ∷ 0x00 ∷ 0x00 ∷ 0x00 ∷ 0x01 ∷ 0x01 ∷ 0x00 ∷ 0x07 ∷ 0x18 ∷ 0xff ∷ 0x00 ∷ 0x00 ∷ 0x00 ∷ 0x02 ∷ 0x00 ∷ []) 14
     -- Seen in class: a struct that ends in a dynamic array is not wrapped
     ∷ wraps (0x01 ∷ 0x00 ∷ 0x00 ∷ 0x00 ∷ 0x00 ∷ 0x00 ∷ 0x00 ∷ 0x04 ∷ 0x10 ∷ 0xff ∷ 0x02 ∷ 0x04 ∷ 0x00 ∷ 0x0c ∷ 0x16 ∷ 0xff ∷ 0x00 ∷ 0x00 ∷ 0x00 ∷ 0x00 ∷ 0x00 ∷ 0x00 ∷ 0x00 ∷ 0x00 ∷ 0x00 ∷ 0x04 ∷ 0x00 ∷ 0x0e ∷ 0x17 ∷ 0xff ∷ 0x00 ∷ 0x00 ∷ 0x00 ∷ 0x04 ∷ 0x01 ∷ 0x00 ∷ 0x01 ∷ 0x00 ∷ 0x00 ∷ 0x00 ∷ 0x00 ∷ 0xff ∷ 0x00 ∷ 0x11 ∷ 0x60 ∷ 0xff ∷ 0x00 ∷ 0x02 ∷ 0x04 ∷ 0x01 ∷ 0x00 ∷ 0x00 ∷ 0x00 ∷ 0x00 ∷ 0x00 ∷ 0x00 ∷ 0x00 ∷ 0x00 ∷ 0x00 ∷ 0xff ∷ 0xff ∷ []) 0 false
+    -- paper 2: a float (1), one returned (2); void (3), then a float taken (4), which an atomic float shares; void again, nothing taken (5)
+    ∷ writes (0x01 ∷ 0x00 ∷ 0x00 ∷ 0x00 ∷ 0x00 ∷ 0x00 ∷ 0x00 ∷ 0x04 ∷ 0x10 ∷ 0xff ∷ 0x02 ∷ 0x04 ∷ 0x00 ∷ 0x04 ∷ 0x13 ∷ 0xff ∷ 0x02 ∷ 0x04 ∷ 0x00 ∷ 0x04 ∷ 0x30 ∷ 0x00 ∷ 0x00 ∷ 0x00 ∷ 0x00 ∷ 0x06 ∷ 0x30 ∷ 0xff ∷ 0xff ∷ 0x01 ∷ 0x00 ∷ 0x00 ∷ 0x00 ∷ 0x06 ∷ 0x30 ∷ 0xff ∷ 0xff ∷ 0x01 ∷ 0x00 ∷ 0x01 ∷ 0x00 ∷ 0x04 ∷ 0x30 ∷ 0xff ∷ 0xff ∷ 0x00 ∷ []) (0x07230203 ∷ 0x00010300 ∷ 0x0000001c ∷ 0x00000006 ∷ 0x00000000 ∷ 0x00030016 ∷ 0x00000001 ∷ 0x00000020 ∷ 0x00030021 ∷ 0x00000002 ∷ 0x00000001 ∷ 0x00020013 ∷ 0x00000003 ∷ 0x00040021 ∷ 0x00000004 ∷ 0x00000003 ∷ 0x00000001 ∷ 0x00030021 ∷ 0x00000005 ∷ 0x00000003 ∷ [])
+    -- paper 2: two equal records are no 12: bound 3
+    ∷ counts (0x01 ∷ 0x00 ∷ 0x00 ∷ 0x00 ∷ 0x00 ∷ 0x00 ∷ 0x00 ∷ 0x04 ∷ 0x30 ∷ 0xff ∷ 0xff ∷ 0x00 ∷ 0x00 ∷ 0x04 ∷ 0x30 ∷ 0xff ∷ 0xff ∷ 0x00 ∷ []) 10 3
+    -- paper 2: a constant above a function record is 6
+    ∷ refuses (0x01 ∷ 0x00 ∷ 0x00 ∷ 0x00 ∷ 0x00 ∷ 0x00 ∷ 0x00 ∷ 0x03 ∷ 0x40 ∷ 0x04 ∷ 0x01 ∷ 0x00 ∷ 0x04 ∷ 0x30 ∷ 0xff ∷ 0xff ∷ 0x00 ∷ []) 6
     ∷ []
 
 -- all rows are right
 pub examples : T (every right rows)
-unfolding ℕ-discrete right rows u16At u32At u64At nameAt nameEnd formatCapabilities dimCapabilities literalWith findAt find compositeOf nullOf words allWords packed put putCount sameLiteral recordTest declareRecord judged check declare wrapped declareMembers anyDynamic declareType idsOf constantOf declareConstant endsDynamic needsWrapper remapOf declareGlobal kindOf formats sameKey imageOf recordAt afterRecord tagRank u16sAt u32sAt membersAt membersEnd typeFields literalFields constantFields globalFields availableFields remapFields entryOf sameNumbers sameComposite occurrences listed lookup capabilityInstructions instructions moduleWords headerTest add addRecord noRecord placeTest memberNames scalarFits spaceFits classFits bindingFits memberTypes sameBytes sameRecord typeRead remapRead entryTest readingTest records membersFit constantFits globalFits fitnessTest octets utf8 noZero zeroables zeroable
+unfolding ℕ-discrete right rows u16At u32At u64At nameAt nameEnd formatCapabilities dimCapabilities literalWith findAt find compositeOf nullOf words allWords packed put putCount sameLiteral recordTest declareRecord judged check declare wrapped declareMembers anyDynamic declareType idsOf sharedType entryIds declareFunction constantOf declareConstant endsDynamic needsWrapper remapOf declareGlobal kindOf formats sameKey imageOf recordAt afterRecord tagRank u16sAt u32sAt membersAt membersEnd typeFields literalFields functionFields constantFields globalFields availableFields remapFields entryOf sameNumbers sameComposite occurrences listed lookup capabilityInstructions instructions moduleWords headerTest add addRecord noRecord placeTest memberNames scalarFits spaceFits classFits bindingFits memberTypes sameBytes sameRecord typeRead remapRead entryTest readingTest records membersFit constantFits globalFits fitnessTest octets utf8 noZero zeroables zeroable
 examples = tt

@@ -7,7 +7,7 @@ use mathlib.Core.Option.{Option, some, none}
 use lib.Dec.{leb}
 use lib.ListN.{length, drop}
 use Rattle.definition.specs.Choice.{pick}
-use Rattle.definition.specs.Numbers.{MagicNumber, OpName, OpMemberName, OpCapability, OpTypeBool, OpTypeInt, OpTypeFloat, OpTypeVector, OpTypeMatrix, OpTypeImage, OpTypeSampler, OpTypeArray, OpTypeRuntimeArray, OpTypeStruct, OpTypePointer, OpConstantTrue, OpConstantFalse, OpConstant, OpConstantComposite, OpConstantNull, OpVariable, OpDecorate, OpMemberDecorate, OpTypeRayQueryKHR, OpTypeAccelerationStructureKHR}
+use Rattle.definition.specs.Numbers.{MagicNumber, OpName, OpMemberName, OpCapability, OpTypeVoid, OpTypeBool, OpTypeInt, OpTypeFloat, OpTypeVector, OpTypeMatrix, OpTypeImage, OpTypeSampler, OpTypeArray, OpTypeRuntimeArray, OpTypeStruct, OpTypePointer, OpTypeFunction, OpConstantTrue, OpConstantFalse, OpConstant, OpConstantComposite, OpConstantNull, OpVariable, OpDecorate, OpMemberDecorate, OpTypeRayQueryKHR, OpTypeAccelerationStructureKHR}
 
 -- ---- an instruction: its opcode, result type, result id and other operands
 
@@ -112,6 +112,13 @@ typeStruct id members = typeOp OpTypeStruct id members
 
 abbrev pub typePointer : ℕ → ℕ → ℕ → Instruction
 typePointer id class type = typeOp OpTypePointer id (class ∷ type ∷ [])
+
+abbrev pub typeVoid : ℕ → Instruction
+typeVoid id = typeOp OpTypeVoid id []
+
+-- the return type's id, then the parameters'
+abbrev pub typeFunction : ℕ → List ℕ → Instruction
+typeFunction id types = typeOp OpTypeFunction id types
 
 abbrev pub constantTrue : ℕ → ℕ → Instruction
 constantTrue type id = valueOp OpConstantTrue type id []

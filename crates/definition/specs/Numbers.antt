@@ -16,6 +16,9 @@ OpMemberName = 6
 abbrev pub OpCapability : ℕ
 OpCapability = 17
 
+abbrev pub OpTypeVoid : ℕ
+OpTypeVoid = 19
+
 abbrev pub OpTypeBool : ℕ
 OpTypeBool = 20
 
@@ -48,6 +51,9 @@ OpTypeStruct = 30
 
 abbrev pub OpTypePointer : ℕ
 OpTypePointer = 32
+
+abbrev pub OpTypeFunction : ℕ
+OpTypeFunction = 33
 
 abbrev pub OpConstantTrue : ℕ
 OpConstantTrue = 41

@@ -1,7 +1,8 @@
 -- Which type is declared under an id, read by the SPIR-V Specification alone: from the instruction that has the id for its result and
 -- from those that it names, down to the scalars. Each operand stands under the Specification's name for it and at the
 -- Specification's place, counted from 0 behind the result id; `readModule` has seen to it that an opcode has all its operands. What
--- is found is said as a shape of document 01; an array, a struct or a pointer has none here. Nothing here knows how a shape is written.
+-- is found is said as a shape of document 01; an array, a struct or a pointer has none here. A function type (paper 2) is said as the
+-- ids that it names. Nothing here knows how a type is written.
 use Prim.Native.Nat.{ℕ, _/_, _%_}
 use mathlib.Core.Bool.{Bool, false}
 use mathlib.Core.List.{List, [], _∷_}
@@ -9,7 +10,7 @@ use mathlib.Core.Option.{Option, some, none}
 use lib.Dec.{eqb}
 use lib.ListN.{getD}
 use Rattle.definition.specs.Choice.{pick}
-use Rattle.definition.specs.Numbers.{OpTypeBool, OpTypeInt, OpTypeFloat, OpTypeVector, OpTypeMatrix, OpTypeImage, OpTypeSampler, OpTypeRayQueryKHR, OpTypeAccelerationStructureKHR}
+use Rattle.definition.specs.Numbers.{OpTypeVoid, OpTypeBool, OpTypeInt, OpTypeFloat, OpTypeVector, OpTypeMatrix, OpTypeImage, OpTypeSampler, OpTypeFunction, OpTypeRayQueryKHR, OpTypeAccelerationStructureKHR}
 use Rattle.definition.specs.Instructions.{Instruction}
 use Rattle.definition.specs.Shapes.{Kind, Shape, sint, uint, float, bool, scalar, vector, matrix, image, sampler, accelerationStructure, rayQuery}
 
@@ -108,3 +109,20 @@ typeBy is i =
 
 unfoldable pub readType : List Instruction → ℕ → Option Shape
 readType is id = thenRead (declarationOf is id) (typeBy is)
+
+-- ---- void and functions
+
+-- OpTypeVoid, which has no operands
+abbrev pub voidBy : Option Instruction → Bool
+voidBy none = false
+voidBy (some i) = eqb (i .opcode) OpTypeVoid
+
+unfoldable pub readVoid : List Instruction → ℕ → Bool
+readVoid is id = voidBy (declarationOf is id)
+
+-- OpTypeFunction: Return Type, Parameter 0 Type, Parameter 1 Type, ...: the ids, the return type's first
+abbrev pub functionBy : Instruction → Option (List ℕ)
+functionBy i = pick (eqb (i .opcode) OpTypeFunction) (some (i .operands)) none
+
+unfoldable pub readFunction : List Instruction → ℕ → Option (List ℕ)
+readFunction is id = thenRead (declarationOf is id) functionBy

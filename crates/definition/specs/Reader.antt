@@ -7,7 +7,7 @@ use mathlib.Core.Option.{Option, some, none}
 use lib.Dec.{eqb, leb, ltb}
 use lib.ListN.{length, take, drop, getD}
 use Rattle.definition.specs.Choice.{pick, every}
-use Rattle.definition.specs.Numbers.{MagicNumber, OpName, OpMemberName, OpCapability, OpTypeBool, OpTypeInt, OpTypeFloat, OpTypeVector, OpTypeMatrix, OpTypeImage, OpTypeSampler, OpTypeArray, OpTypeRuntimeArray, OpTypeStruct, OpTypePointer, OpConstantTrue, OpConstantFalse, OpConstant, OpConstantComposite, OpConstantNull, OpVariable, OpDecorate, OpMemberDecorate, OpTypeRayQueryKHR, OpTypeAccelerationStructureKHR}
+use Rattle.definition.specs.Numbers.{MagicNumber, OpName, OpMemberName, OpCapability, OpTypeVoid, OpTypeBool, OpTypeInt, OpTypeFloat, OpTypeVector, OpTypeMatrix, OpTypeImage, OpTypeSampler, OpTypeArray, OpTypeRuntimeArray, OpTypeStruct, OpTypePointer, OpTypeFunction, OpConstantTrue, OpConstantFalse, OpConstant, OpConstantComposite, OpConstantNull, OpVariable, OpDecorate, OpMemberDecorate, OpTypeRayQueryKHR, OpTypeAccelerationStructureKHR}
 use Rattle.definition.specs.Instructions.{Instruction, optional}
 
 -- ---- operands
@@ -95,6 +95,7 @@ layoutOf o =
     pick (eqb o OpName) (statement (id ∷ string ∷ []))
     (pick (eqb o OpMemberName) (statement (id ∷ number ∷ string ∷ []))
     (pick (eqb o OpCapability) (statement (number ∷ []))
+    (pick (eqb o OpTypeVoid) (typeLayout [])
     (pick (eqb o OpTypeBool) (typeLayout [])
     (pick (eqb o OpTypeInt) (typeLayout (number ∷ number ∷ []))
     (pick (eqb o OpTypeFloat) (typeLayout (number ∷ []))
@@ -106,6 +107,7 @@ layoutOf o =
     (pick (eqb o OpTypeRuntimeArray) (typeLayout (id ∷ []))
     (pick (eqb o OpTypeStruct) (typeLayout (ids ∷ []))
     (pick (eqb o OpTypePointer) (typeLayout (number ∷ id ∷ []))
+    (pick (eqb o OpTypeFunction) (typeLayout (id ∷ ids ∷ []))
     (pick (eqb o OpConstantTrue) (valueLayout [])
     (pick (eqb o OpConstantFalse) (valueLayout [])
     (pick (eqb o OpConstant) (valueLayout (number ∷ numbers ∷ []))
@@ -116,7 +118,7 @@ layoutOf o =
     (pick (eqb o OpMemberDecorate) (statement (id ∷ number ∷ number ∷ numbers ∷ []))
     (pick (eqb o OpTypeRayQueryKHR) (typeLayout [])
     (pick (eqb o OpTypeAccelerationStructureKHR) (typeLayout [])
-    unknown)))))))))))))))))))))))
+    unknown)))))))))))))))))))))))))
 
 -- the ids that an instruction uses: its result type, and its operands that are ids
 unfoldable pub uses : Instruction → List ℕ

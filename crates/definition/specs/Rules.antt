@@ -1,4 +1,4 @@
--- How the entries of a sheet change the state ("Rules"): types, constants and globals, in the sheet's order.
+-- How the entries of a sheet change the state ("Rules"): types, function types, constants and globals, in the sheet's order.
 use Prim.Native.Nat.{ℕ, suc, zero, _*_, _/_, _%_}
 use mathlib.Core.Bool.{Bool, true, false, _&&_, _||_, not}
 use mathlib.Core.List.{List, [], _∷_, _++_}
@@ -9,15 +9,15 @@ use Rattle.definition.specs.Choice.{pick, orElse, among}
 use Rattle.definition.specs.Bytes.{Name}
 use Rattle.definition.specs.Numbers.{DecorationBlock, DecorationColMajor, DecorationArrayStride, DecorationMatrixStride, DecorationNonWritable, DecorationNonReadable, DecorationBinding, DecorationDescriptorSet, DecorationOffset}
 use Rattle.definition.specs.Literals.{u32}
-use Rattle.definition.specs.Instructions.{Instruction, name, memberName, decorate, memberDecorate, typeArray, typeRuntimeArray, typeStruct, typePointer, variable}
-use Rattle.definition.specs.Sheet.{Options, Member, TypeInner, TypeEntry, Expression, Global, Remap, Entry, privateSpace, workGroupSpace, uniformSpace, storageSpace, pushConstantSpace}
+use Rattle.definition.specs.Instructions.{Instruction, name, memberName, decorate, memberDecorate, typeArray, typeRuntimeArray, typeStruct, typePointer, typeVoid, typeFunction, variable}
+use Rattle.definition.specs.Sheet.{Options, Member, TypeInner, TypeEntry, Function, Expression, Global, Remap, Entry, privateSpace, workGroupSpace, uniformSpace, storageSpace, pushConstantSpace}
 use Rattle.definition.specs.Sheet.{Scalar, Vector, Matrix, Atomic, Pointer, ValuePointer, Array, Struct, Image, Sampler, AccelerationStructure, RayQuery, BindingArray}
-use Rattle.definition.specs.Sheet.{Value, Alias, ZeroValue, Compose, Splat, available, remap, type, constant, global}
+use Rattle.definition.specs.Sheet.{Value, Alias, ZeroValue, Compose, Splat, available, remap, type, function, constant, global}
 use Rattle.definition.specs.Tests.{Seen}
 use Rattle.definition.specs.Shapes.{Kind, Key, shapeOf, storageClass, kindOf}
 use Rattle.definition.specs.Shapes.{Shape, bool, scalar, vector, pointer, bindingPointer, entry, shape}
-use Rattle.definition.specs.State.{Valued, State, Got, got, takeId, enter, withConstants, annotate, label, declareAlone, idOf}
-use Rattle.definition.specs.Finding.{literalKind, find, literal, compositeOf, nullOf}
+use Rattle.definition.specs.State.{Composite, function as functionKey, void, sameComposite, Valued, State, Got, got, takeId, enter, withConstants, annotate, label, declareAlone, lookup, idOf, entryId, entryIds}
+use Rattle.definition.specs.Finding.{literalKind, find, literal, compositeOf, nullOf, enterComposite}
 
 -- ---- the types read so far
 
@@ -167,6 +167,31 @@ unfoldable pub declareType : Bool → List TypeEntry → TypeEntry → State →
 declareType debug ts t s =
     let g = declareInner debug ts (shapeOf (t .inner)) (t .inner) s in
     labelIf debug (name (g .id)) (t .name) (enter (entry (length ts)) (g .id) (g .state))
+
+-- ---- function types (paper 2): "The reference is `get_function_type`"
+
+-- the id of a type that is shared by the ids that it names, which is declared if it has none yet
+abbrev pub orNewType : Option ℕ → Composite → (ℕ → Instruction) → State → Got
+orNewType (some id) c write s = got id s
+orNewType none c write s =
+    let id = suc (s .last) in
+    let u = declareAlone (write id) (takeId s) in
+    got id (withConstants (enterComposite c id (u .constants)) u)
+
+unfoldable pub sharedType : Composite → (ℕ → Instruction) → State → Got
+sharedType c write s = orNewType (lookup sameComposite c (s .constants .composites)) c write s
+
+-- "void is declared by the first record that returns it, its id taken before that record's"
+abbrev pub resultOf : Option ℕ → State → Got
+resultOf none s = sharedType void typeVoid s
+resultOf (some t) s = got (entryId s t) s
+
+-- "Two records with equal return id and equal parameter ids share one id."
+unfoldable pub declareFunction : Function → State → State
+declareFunction f s =
+    let r = resultOf (f .result) s in
+    let ids = r .id ∷ entryIds (r .state) (f .parameters) in
+    sharedType (functionKey ids) (λ i. typeFunction i ids) (r .state) .state
 
 -- ---- constants
 
@@ -369,5 +394,6 @@ abbrev pub declareEntry : Options → Seen → Entry → State → State
 declareEntry o n (available cs) s = s
 declareEntry o n (remap m) s = s
 declareEntry o n (type t) s = declareType (o .debug) (n .types) t s
+declareEntry o n (function f) s = declareFunction f s
 declareEntry o n (constant e) s = declareConstant (n .types) e s
 declareEntry o n (global g) s = declareGlobal o n g s

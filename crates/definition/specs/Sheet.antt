@@ -46,14 +46,16 @@ recordAt rest = record { tag = u8At rest 2; body = take (u16At rest 0 - 1) (drop
 unfoldable pub afterRecord : List ℕ → List ℕ
 afterRecord rest = drop (2 + u16At rest 0) rest
 
--- "Rank rises as listed.": Available 1, Remap 2, types 3, constants 4, globals 5; 0 is no tag
+-- "Rank rises as listed.": Available 1, Remap 2, types 3, functions 4 (paper 2: "between types and constants"), constants 5,
+-- globals 6; 0 is no tag
 unfoldable pub tagRank : ℕ → ℕ
 tagRank t =
     pick (eqb t 1) 1
     (pick (eqb t 2) 2
     (pick (within 16 28 t) 3
-    (pick (within 64 68 t) 4
-    (pick (eqb t 96) 5 0))))
+    (pick (eqb t 48) 4
+    (pick (within 64 68 t) 5
+    (pick (eqb t 96) 6 0)))))
 
 -- ---- "Space: 0 Function, 1 Private, 2 WorkGroup, 3 Uniform, 4 Storage, 5 Handle, 6 PushConstant"
 
@@ -106,6 +108,12 @@ pub record TypeEntry : Type 0 where
   pub name : Name
   pub inner : TypeInner
 
+-- ---- function types (tag 48, paper 2): "a return type (65,535 for void), a count byte 0 to 16 and that many parameter types"
+
+pub record Function : Type 0 where
+  pub result : Option ℕ
+  pub parameters : List ℕ
+
 -- ---- constants (tags 64 to 68); a Compose's parts and a Splat's value are constants
 -- Alias is document 01's term: the Rust's `Expression::Constant`. Value is a Literal record, the Rust's `Expression::Literal`.
 
@@ -141,6 +149,7 @@ pub data Entry : Type 0 where
   available : List ℕ → Entry
   remap : Remap → Entry
   type : TypeEntry → Entry
+  function : Function → Entry
   constant : Expression → Entry
   global : Global → Entry
 
@@ -213,9 +222,12 @@ constantFields t b =
     (pick (eqb t 67) (ending (4 + 2 * u16At b 2) (Compose (u16At b 0) (u16sAt b 4 (u16At b 2))))
     (ending 3 (Splat (u8At b 0) (u16At b 1))))))
 
--- "16-bit init (65,535 none)"
+-- "16-bit init (65,535 none)", "65,535 for void"
 abbrev pub initOf : ℕ → Option ℕ
 initOf i = pick (eqb i 65535) none (some i)
+
+unfoldable pub functionFields : List ℕ → Fields Function
+functionFields b = ending (3 + 2 * u8At b 2) (record { result = initOf (u16At b 0); parameters = u16sAt b 3 (u8At b 2) })
 
 -- "name, type, space, access, bound 0 or 1, group, binding (32 bits each, 0 if unbound), 16-bit init (65,535 none)": n is
 -- where the name ends
@@ -251,5 +263,6 @@ entryOf r =
     pick (eqb (tagRank (r .tag)) 1) (mapFields available (availableFields (r .body)))
     (pick (eqb (tagRank (r .tag)) 2) (mapFields remap (remapFields (r .body)))
     (pick (eqb (tagRank (r .tag)) 3) (mapFields (λ i. type (typeEntry r i)) (typeFields (r .tag) (r .body) (nameEnd (r .body) 0)))
-    (pick (eqb (tagRank (r .tag)) 4) (mapFields constant (constantFields (r .tag) (r .body)))
-    (mapFields global (globalFields (r .body) (nameEnd (r .body) 0))))))
+    (pick (eqb (tagRank (r .tag)) 4) (mapFields function (functionFields (r .body)))
+    (pick (eqb (tagRank (r .tag)) 5) (mapFields constant (constantFields (r .tag) (r .body)))
+    (mapFields global (globalFields (r .body) (nameEnd (r .body) 0)))))))

@@ -6,15 +6,19 @@ use mathlib.Core.Path.{_≡_, refl}
 use native.Mathlib.Decide.{ℕ-discrete}
 use native.Mathlib.Omega.{arith}
 use lib.Dec.{eqb}
-use Rattle.definition.specs.Choice.{pick}
+use Rattle.definition.specs.Choice.{pick, orElse}
 use Rattle.definition.specs.Literals.{Literal}
 use Rattle.definition.specs.Instructions.{Instruction, capability, header, allWords}
-use Rattle.definition.specs.Shapes.{Kind, Key, sameKey}
+use Rattle.definition.specs.Shapes.{Kind, Key, sameKey, entry}
 
 -- ---- constants: "A composite is shared by type key (entry index, or shape for a Splat) and parts; a null by type id"
 
+-- what is shared by ids: a composite, and by paper 2 ("Two records with equal return id and equal parameter ids share one id") a
+-- function type, its return id first, and void, of which there is one
 pub data Composite : Type 0 where
   composite : Key → List ℕ → Composite
+  function : List ℕ → Composite
+  void : Composite
   deriving Discrete as Composite-discrete
 
 unfoldable pub sameNumbers : Discrete (List ℕ)
@@ -37,7 +41,8 @@ pub record Valued : Type 0 where
   pub type : ℕ
   pub kind : Option Kind
 
--- literals, composites and nulls in order of entry, each with its id; the sheet's constants in its order
+-- literals, composites (function types and void among them) and nulls in order of entry, each with its id; the sheet's constants
+-- in its order
 pub record Constants : Type 0 where
   pub literals : List (Literal × ℕ)
   pub composites : List (Composite × ℕ)
@@ -110,6 +115,14 @@ lookup alike k (x ∷ xs) = elim (alike k (x .0)) [ yes p ↦ some (x .1) | no p
 -- the id of a key that is entered
 abbrev pub idOf : State → Key → Option ℕ
 idOf s k = lookup sameKey k (s .types)
+
+-- the ids of types that were read, by their indexes
+abbrev pub entryId : State → ℕ → ℕ
+entryId s t = orElse 0 (idOf s (entry t))
+
+unfoldable pub entryIds : State → List ℕ → List ℕ
+entryIds s [] = []
+entryIds s (t ∷ ts) = entryId s t ∷ entryIds s ts
 
 -- an id, and the state in which it is declared
 pub record Got : Type 0 where

@@ -10,9 +10,9 @@ use Rattle.definition.specs.Choice.{pick, unless, first, within, among, 
 use Rattle.definition.specs.Bytes.{Name, u16At}
 use Rattle.definition.specs.Utf8.{nameFits}
 use Rattle.definition.specs.Literals.{Literal, f64, f32, u32, i32, boolean}
-use Rattle.definition.specs.Sheet.{versionOf, flagsOf, Record, tagRank, formOf, Member, TypeInner, TypeEntry, Expression, Global, Remap, Entry, entryOf, recordAt, afterRecord, headerLength, pushConstantSpace, storageSpace}
+use Rattle.definition.specs.Sheet.{versionOf, flagsOf, Record, tagRank, formOf, Member, TypeInner, TypeEntry, Function, Expression, Global, Remap, Entry, entryOf, recordAt, afterRecord, headerLength, pushConstantSpace, storageSpace}
 use Rattle.definition.specs.Sheet.{Scalar, Vector, Matrix, Atomic, Pointer, ValuePointer, Array, Struct, Image, Sampler, AccelerationStructure, RayQuery, BindingArray}
-use Rattle.definition.specs.Sheet.{Value, Alias, ZeroValue, Compose, Splat, available, remap, type, constant, global}
+use Rattle.definition.specs.Sheet.{Value, Alias, ZeroValue, Compose, Splat, available, remap, type, function, constant, global}
 
 -- ---- limits, each named once
 
@@ -27,6 +27,12 @@ remapsMost = 64
 
 abbrev pub typesMost : ℕ
 typesMost = 256
+
+abbrev pub functionsMost : ℕ
+functionsMost = 64
+
+abbrev pub parametersMost : ℕ
+parametersMost = 16
 
 abbrev pub constantsMost : ℕ
 constantsMost = 256
@@ -53,18 +59,20 @@ pub record Seen : Type 0 where
   pub available : Option (List ℕ)
   pub remaps : List Remap
   pub types : List TypeEntry
+  pub functions : List Function
   pub constants : List Expression
   pub globals : List Global
 
 abbrev pub nothing : Seen
-nothing = record { rank = 0; available = none; remaps = []; types = []; constants = []; globals = [] }
+nothing = record { rank = 0; available = none; remaps = []; types = []; functions = []; constants = []; globals = [] }
 
 unfoldable pub add : Seen → ℕ → Entry → Seen
-add n r (available cs) = record { rank = r; available = some cs; remaps = n .remaps; types = n .types; constants = n .constants; globals = n .globals }
-add n r (remap m) = record { rank = r; available = n .available; remaps = n .remaps ++ m ∷ []; types = n .types; constants = n .constants; globals = n .globals }
-add n r (type t) = record { rank = r; available = n .available; remaps = n .remaps; types = n .types ++ t ∷ []; constants = n .constants; globals = n .globals }
-add n r (constant c) = record { rank = r; available = n .available; remaps = n .remaps; types = n .types; constants = n .constants ++ c ∷ []; globals = n .globals }
-add n r (global g) = record { rank = r; available = n .available; remaps = n .remaps; types = n .types; constants = n .constants; globals = n .globals ++ g ∷ [] }
+add n r (available cs) = record { rank = r; available = some cs; remaps = n .remaps; types = n .types; functions = n .functions; constants = n .constants; globals = n .globals }
+add n r (remap m) = record { rank = r; available = n .available; remaps = n .remaps ++ m ∷ []; types = n .types; functions = n .functions; constants = n .constants; globals = n .globals }
+add n r (type t) = record { rank = r; available = n .available; remaps = n .remaps; types = n .types ++ t ∷ []; functions = n .functions; constants = n .constants; globals = n .globals }
+add n r (function f) = record { rank = r; available = n .available; remaps = n .remaps; types = n .types; functions = n .functions ++ f ∷ []; constants = n .constants; globals = n .globals }
+add n r (constant c) = record { rank = r; available = n .available; remaps = n .remaps; types = n .types; functions = n .functions; constants = n .constants ++ c ∷ []; globals = n .globals }
+add n r (global g) = record { rank = r; available = n .available; remaps = n .remaps; types = n .types; functions = n .functions; constants = n .constants; globals = n .globals ++ g ∷ [] }
 
 -- the record's entry is added
 unfoldable pub addRecord : Seen → Record → Seen
@@ -89,8 +97,9 @@ abbrev pub room : Seen → ℕ → Bool
 room n r =
     pick (eqb r 2) (ltb (length (n .remaps)) remapsMost)
     (pick (eqb r 3) (ltb (length (n .types)) typesMost)
-    (pick (eqb r 4) (ltb (length (n .constants)) constantsMost)
-    (pick (eqb r 5) (ltb (length (n .globals)) globalsMost) true)))
+    (pick (eqb r 4) (ltb (length (n .functions)) functionsMost)
+    (pick (eqb r 5) (ltb (length (n .constants)) constantsMost)
+    (pick (eqb r 6) (ltb (length (n .globals)) globalsMost) true))))
 
 unfoldable pub placeTest : Seen → ℕ → ℕ
 placeTest n t =
@@ -128,6 +137,7 @@ abbrev pub namesOf : Entry → List Name
 namesOf (available cs) = []
 namesOf (remap m) = []
 namesOf (type t) = t .name ∷ innerNames (t .inner)
+namesOf (function f) = []
 namesOf (constant c) = []
 namesOf (global g) = g .name ∷ []
 
@@ -194,6 +204,7 @@ abbrev pub valuesFit : Entry → Bool
 valuesFit (available cs) = true
 valuesFit (remap m) = ltb 0 (m .size)
 valuesFit (type t) = innerFits (t .inner)
+valuesFit (function f) = leb (length (f .parameters)) parametersMost
 valuesFit (constant c) = expressionFits c
 valuesFit (global g) = spaceFits (g .space) (g .access) && bindingFits g
 
@@ -224,10 +235,16 @@ expressionTypes (ZeroValue t) = t ∷ []
 expressionTypes (Compose t cs) = t ∷ []
 expressionTypes (Splat n c) = []
 
+-- an index where there is one: "16-bit init (65,535 none)", "65,535 for void"
+abbrev pub initList : Option ℕ → List ℕ
+initList none = []
+initList (some c) = c ∷ []
+
 abbrev pub typesNamed : Entry → List ℕ
 typesNamed (available cs) = []
 typesNamed (remap m) = []
 typesNamed (type t) = innerTypes (t .inner)
+typesNamed (function f) = initList (f .result) ++ f .parameters
 typesNamed (constant c) = expressionTypes c
 typesNamed (global g) = g .type ∷ []
 
@@ -239,14 +256,11 @@ expressionConstants (ZeroValue t) = []
 expressionConstants (Compose t cs) = cs
 expressionConstants (Splat n c) = c ∷ []
 
-abbrev pub initList : Option ℕ → List ℕ
-initList none = []
-initList (some c) = c ∷ []
-
 abbrev pub constantsNamed : Entry → List ℕ
 constantsNamed (available cs) = []
 constantsNamed (remap m) = []
 constantsNamed (type t) = []
+constantsNamed (function f) = []
 constantsNamed (constant c) = expressionConstants c
 constantsNamed (global g) = initList (g .init)
 
@@ -282,6 +296,7 @@ abbrev pub repeated : Seen → Entry → Bool
 repeated n (available cs) = false
 repeated n (remap m) = remapRead m (n .remaps)
 repeated n (type t) = typeRead (t .source) (n .types)
+repeated n (function f) = false
 repeated n (constant c) = false
 repeated n (global g) = false
 

@@ -9,7 +9,7 @@ use lib.ListN.{length}
 use Rattle.definition.specs.Choice.{pick, unless, among, every, orElse}
 use Rattle.definition.specs.Sheet.{TypeInner, TypeEntry, Expression, Global, Entry, functionSpace, privateSpace, workGroupSpace, uniformSpace, storageSpace, handleSpace}
 use Rattle.definition.specs.Sheet.{Scalar, Vector, Matrix, Atomic, Pointer, ValuePointer, Array, Struct, Image, Sampler, AccelerationStructure, RayQuery, BindingArray}
-use Rattle.definition.specs.Sheet.{Value, Alias, ZeroValue, Compose, Splat, available, remap, type, constant, global}
+use Rattle.definition.specs.Sheet.{Value, Alias, ZeroValue, Compose, Splat, available, remap, type, function, constant, global}
 use Rattle.definition.specs.Tests.{Seen, memberTypes, present}
 use Rattle.definition.specs.Zeroable.{zeroable}
 use Rattle.definition.specs.Shapes.{Key, Shape, shapeOf, kindOf, float, scalar, vector, matrix, pointer, valuePointer, image, sampler, accelerationStructure, rayQuery, bindingArray, bindingPointer, entry, shape}
@@ -101,6 +101,7 @@ abbrev pub entryFits : Seen → State → Entry → Bool
 entryFits n s (available cs) = true
 entryFits n s (remap m) = true
 entryFits n s (type t) = true
+entryFits n s (function f) = true
 entryFits n s (constant e) = constantFits (n .types) s e
 entryFits n s (global g) = globalFits (n .types) s g
 
@@ -132,6 +133,7 @@ abbrev pub entryAvailable : Seen → Entry → Bool
 entryAvailable n (available cs) = true
 entryAvailable n (remap m) = true
 entryAvailable n (type t) = shapeAvailable (n .available) (shapeOf (t .inner))
+entryAvailable n (function f) = true
 entryAvailable n (constant e) = true
 entryAvailable n (global g) = true
 

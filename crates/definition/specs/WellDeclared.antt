@@ -7,17 +7,17 @@ use mathlib.Core.Option.{Option, some, none}
 use mathlib.Core.Path.{_≡_}
 use lib.Dec.{eqb, T}
 use lib.ListN.{getElem?, take, drop}
-use Rattle.definition.specs.Choice.{pick, among, within}
-use Rattle.definition.specs.Numbers.{OpName, OpMemberName, OpCapability, OpTypeBool, OpTypeInt, OpTypeFloat, OpTypeVector, OpTypeMatrix, OpTypeImage, OpTypeSampler, OpDecorate, OpMemberDecorate, OpTypeRayQueryKHR, OpTypeAccelerationStructureKHR}
+use Rattle.definition.specs.Choice.{pick, among, within, orElse}
+use Rattle.definition.specs.Numbers.{OpName, OpMemberName, OpCapability, OpTypeVoid, OpTypeBool, OpTypeInt, OpTypeFloat, OpTypeVector, OpTypeMatrix, OpTypeImage, OpTypeSampler, OpTypeFunction, OpDecorate, OpMemberDecorate, OpTypeRayQueryKHR, OpTypeAccelerationStructureKHR}
 use Rattle.definition.specs.Numbers.{CapabilityFloat16, CapabilityFloat64, CapabilityInt64, CapabilityInt16, CapabilityInt8, CapabilitySampled1D, CapabilityImage1D, CapabilitySampledCubeArray, CapabilityImageCubeArray, CapabilityStorageImageExtendedFormats, CapabilityRayQueryKHR}
 use Rattle.definition.specs.Numbers.{Dim1D, DimCube, ImageFormatRg32f, ImageFormatR8Snorm, ImageFormatRg32i, ImageFormatR8i, ImageFormatRgb10a2ui, ImageFormatR8ui}
 use Rattle.definition.specs.Instructions.{Instruction, version, generator}
 use Rattle.definition.specs.Reader.{layoutOf, idsAmong, uses, Module, readModule}
-use Rattle.definition.specs.ReadTypes.{operand, readType}
-use Rattle.definition.specs.Sheet.{TypeInner, TypeEntry, startOf}
+use Rattle.definition.specs.ReadTypes.{operand, readType, readVoid, readFunction}
+use Rattle.definition.specs.Sheet.{TypeInner, TypeEntry, Function, startOf}
 use Rattle.definition.specs.Sheet.{Scalar, Vector, Matrix, Atomic, Pointer, ValuePointer, Array, Struct, Image, Sampler, AccelerationStructure, RayQuery, BindingArray}
 use Rattle.definition.specs.Shapes.{Shape, shapeOf, entry}
-use Rattle.definition.specs.State.{State, same, occurrences, idOf, boundOf, instructions, moduleWords}
+use Rattle.definition.specs.State.{function as functionKey, void, sameComposite, State, same, occurrences, lookup, idOf, entryId, entryIds, boundOf, instructions, moduleWords}
 use Rattle.definition.specs.Tests.{fit}
 use Rattle.definition.specs.Operations.{Progress, judged, Written, declare}
 
@@ -114,7 +114,7 @@ needed c (i ∷ is) = occurrences c (needs i) + needed c is
 
 -- types but aggregates and pointers
 abbrev pub plainType : ℕ → Bool
-plainType o = among o (OpTypeBool ∷ OpTypeInt ∷ OpTypeFloat ∷ OpTypeVector ∷ OpTypeMatrix ∷ OpTypeImage ∷ OpTypeSampler ∷ OpTypeAccelerationStructureKHR ∷ OpTypeRayQueryKHR ∷ [])
+plainType o = among o (OpTypeVoid ∷ OpTypeFunction ∷ OpTypeBool ∷ OpTypeInt ∷ OpTypeFloat ∷ OpTypeVector ∷ OpTypeMatrix ∷ OpTypeImage ∷ OpTypeSampler ∷ OpTypeAccelerationStructureKHR ∷ OpTypeRayQueryKHR ∷ [])
 
 pub record EqualTypes (i j : Instruction) : Type 0 where
   pub plain : T (plainType (i .opcode))
@@ -168,6 +168,34 @@ pub record EntriesDeclared (ts : List TypeEntry) (s : State) (is : List Instruct
   pub shared : (h g : ℕ) (l m : Shape) (i j : ℕ) → HasShape ts h l → HasShape ts g m → idOf s (entry h) ≡ some i → idOf s (entry g) ≡ some j → (i ≡ j) ↔ (l ≡ m)
   pub declared : (h : ℕ) (l : Shape) → HasShape ts h l → (i : ℕ) × (idOf s (entry h) ≡ some i) × (readType is i ≡ some l)
 
+-- ---- function types (paper 2)
+
+-- the ids that a record names, its return type's or void's first, and the id that it gets
+abbrev pub returnId : State → Option ℕ → ℕ
+returnId s none = orElse 0 (lookup sameComposite void (s .constants .composites))
+returnId s (some t) = entryId s t
+
+abbrev pub signatureOf : State → Function → List ℕ
+signatureOf s f = returnId s (f .result) ∷ entryIds s (f .parameters)
+
+abbrev pub functionId : State → Function → Option ℕ
+functionId s f = lookup sameComposite (functionKey (signatureOf s f)) (s .constants .composites)
+
+-- some record returns void
+abbrev pub VoidReturned : List Function → Type 0
+VoidReturned fs = (f : Function) × List·Memᴰ f fs × (f .result ≡ none)
+
+-- "The rule on shared ids covers void and these types too."
+pub record FunctionsDeclared (fs : List Function) (s : State) (is : List Instruction) : Type 0 where
+  -- "Two records with equal return id and equal parameter ids share one id", and no other two
+  pub shared : (f g : Function) (i j : ℕ) → List·Memᴰ f fs → List·Memᴰ g fs → functionId s f ≡ some i → functionId s g ≡ some j → (i ≡ j) ↔ (signatureOf s f ≡ signatureOf s g)
+  -- "A record with tag 48 holds a return type .. and that many parameter types": the words declare them, in order, under its id
+  pub declared : (f : Function) → List·Memᴰ f fs → (i : ℕ) × (functionId s f ≡ some i) × (readFunction is i ≡ some (signatureOf s f))
+  -- "65,535 for void": what such a record has for its return type is OpTypeVoid
+  pub returns-void : (f : Function) → List·Memᴰ f fs → f .result ≡ none → readVoid is (returnId s (f .result)) ≡ true
+  -- "void is declared by the first record that returns it": by none where no record does; once at most, as `no-equal-types` says
+  pub void-returned : (i : ℕ) → readVoid is i ≡ true → VoidReturned fs
+
 -- ---- demand 3, whole: "Whatever sheet Declare accepts, whoever reads its words by that specification finds .."
 
 -- the header and the four sections, in order
@@ -181,6 +209,7 @@ pub record Found (s : List ℕ) (p : Progress) (ws : List ℕ) : Type 0 where
   pub written : found ≡ writtenOf (p .state)
   pub well : WellDeclared (startOf s) (found .bound) (found .instructions)
   pub entries : EntriesDeclared (p .seen .types) (p .state) (found .instructions)
+  pub functions : FunctionsDeclared (p .seen .functions) (p .state) (found .instructions)
 
 -- bytes are bytes
 abbrev pub IsBytes : List ℕ → Type 0

@@ -3,10 +3,11 @@
 use Prim.Native.Nat.{ℕ, zero, suc, _<_, _≤_}
 use mathlib.Core.Path.{_≡_, refl}
 use mathlib.Core.Bool.{Bool, true, false, not, _&&_, and-false}
+use mathlib.Core.List.{List, [], _∷_, _++_}
 use native.Mathlib.Omega.{arith}
 use borrow.Author.Tests.{not-true, not-false, eq-eqb, ne-eqb, lt-ltb, lt-leb, le-leb, le-ltb}
 use lib.Dec.{eqb, ltb}
-use Rattle.definition.specs.Choice.{unless, first, within}
+use Rattle.definition.specs.Choice.{unless, first, within, every}
 
 pub stop : (r s : Bool) (n x : ℕ) → r ≡ s → not r ≡ true → n ≡ unless s n x
 stop r s n x e h = simp (← e, not-true r h)
@@ -49,6 +50,15 @@ and-stop r s x e h = simp (← e, h)
 
 pub and-go : (r s x y : Bool) → r ≡ s → r ≡ true → y ≡ x → y ≡ (s && x)
 and-go r s x y e h k = simp (← e, h) k
+
+-- a test of the numbers of two lists
+pub every-both : (P : ℕ → Bool) (xs ys : List ℕ) → every P (xs ++ ys) ≡ (every P xs && every P ys)
+every-both P [] ys = refl
+every-both P (x ∷ xs) ys = go (P x) (every-both P xs ys)
+  where
+    go : (t : Bool) → every P (xs ++ ys) ≡ (every P xs && every P ys) → (t && every P (xs ++ ys)) ≡ ((t && every P xs) && every P ys)
+    go true e = e
+    go false e = refl
 
 -- ---- a number inside a range, below it and above it
 

@@ -11,5 +11,6 @@ pub record Counted (n : Seen) (k : Counts) : Type 0 where
   pub available : present (n .available) ≡ ltb 0 (k .available)
   pub remaps : length (n .remaps) ≡ k .remaps
   pub types : length (n .types) ≡ k .types
+  pub functions : length (n .functions) ≡ k .functions
   pub constants : length (n .constants) ≡ k .constants
   pub globals : length (n .globals) ≡ k .globals

@@ -7,8 +7,8 @@ use lib.Dec.{eqb}
 use lib.ListN.{length, take, drop}
 use Rattle.definition.specs.Choice.{pick}
 use Rattle.definition.specs.Bytes.{nameEnd}
-use Rattle.definition.specs.Sheet.{Record, recordAt, TypeEntry, typeEntry, typeFields, Expression, constantFields, Global, globalFields, Remap, remapFields, availableFields}
-use Rattle.definition.specs.Tests.{Seen, remapsMost, typesMost, constantsMost, globalsMost}
+use Rattle.definition.specs.Sheet.{Record, recordAt, TypeEntry, typeEntry, typeFields, Function, Expression, constantFields, Global, globalFields, Remap, remapFields, availableFields}
+use Rattle.definition.specs.Tests.{Seen, remapsMost, typesMost, functionsMost, constantsMost, globalsMost}
 use Rattle.records.specs.declared.Counts.{Counts}
 
 -- the record at a place of the sheet, and the entry that it is, by its kind
@@ -40,7 +40,7 @@ abbrev pub globalFrom : List ℕ → ℕ → Global
 globalFrom s at = globalFields (recordFrom s at .body) (nameEnd (recordFrom s at .body) 0) .value
 
 -- the slices that the caller lends: where the records of each kind stand. Behind as many places as there can be types, `types`
--- has a hash of each type (`sheet`)
+-- has a hash of each type (`sheet`). No record names a function, so that no function is looked for again, and no place of one kept
 pub record Places : Type 0 where
   pub remaps : List ℕ
   pub types : List ℕ
@@ -50,13 +50,15 @@ pub record Places : Type 0 where
 abbrev pub placesOf : List ℕ → List ℕ → List ℕ → List ℕ → Places
 placesOf r t c g = record { remaps = r; types = t; constants = c; globals = g }
 
--- what has been read of the sheet s
-abbrev pub seenOf : List ℕ → Places → Counts → Seen
-seenOf s p k = record {
+-- what has been read of the sheet s. The functions fs are given: the program holds only how many they are, and no test looks at
+-- more of them than that
+abbrev pub seenOf : List ℕ → Places → Counts → List Function → Seen
+seenOf s p k fs = record {
   rank = k .rank;
   available = availableFrom s (k .available);
   remaps = map (remapFrom s) (take (k .remaps) (p .remaps));
   types = typesFrom s (p .types) (k .types);
+  functions = fs;
   constants = map (constantFrom s) (take (k .constants) (p .constants));
   globals = map (globalFrom s) (take (k .globals) (p .globals));
 }
@@ -72,5 +74,6 @@ pub record Ample (p : Places) : Type 0 where
 pub record WithinLimits (k : Counts) : Type 0 where
   pub remaps : k .remaps ≤ remapsMost
   pub types : k .types ≤ typesMost
+  pub functions : k .functions ≤ functionsMost
   pub constants : k .constants ≤ constantsMost
   pub globals : k .globals ≤ globalsMost

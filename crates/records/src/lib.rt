@@ -20,18 +20,22 @@ pub const REMAPS_MOST: usize = 64;
 
 pub const TYPES_MOST: usize = 256;
 
+pub const FUNCTIONS_MOST: usize = 64;
+
 pub const CONSTANTS_MOST: usize = 256;
 
 pub const GLOBALS_MOST: usize = 64;
 
 // What has been read: the rank of the last record, how many bytes of the sheet come before Available, or 0 where there is none, and
-// how many records there are of each other kind. Where those stand is kept in slices, which the caller lends. The numbers are of one
-// width, since a copy of narrower ones with gaps between them takes longer, and a record's turn makes many.
+// how many records there are of each other kind. Where those stand is kept in slices, which the caller lends; but no record names a
+// function, so of those only the number is kept. The numbers are of one width, since a copy of narrower ones with gaps between them
+// takes longer, and a record's turn makes many.
 pub struct Counts {
     pub rank: usize,
     pub available: usize,
     pub remaps: usize,
     pub types: usize,
+    pub functions: usize,
     pub constants: usize,
     pub globals: usize,
 }
@@ -119,7 +123,7 @@ pub fn next_place(rest: &[u8], at: usize) -> usize
     at + (2 + fields::u16_at(rest, 0) as usize)
 }
 
-// Available 1, Remap 2, types 3, constants 4, globals 5; 0 is no tag.
+// Available 1, Remap 2, types 3, functions 4, constants 5, globals 6; 0 is no tag.
 pub fn rank_of(tag: u8) -> u8
     ensures { λ r. ⌜ r ≡ tagRank tag ⌝ }
 {
@@ -127,8 +131,9 @@ pub fn rank_of(tag: u8) -> u8
         1 => 1,
         2 => 2,
         16..=28 => 3,
-        64..=68 => 4,
-        96 => 5,
+        48 => 4,
+        64..=68 => 5,
+        96 => 6,
         _ => 0,
     }
 }
@@ -153,8 +158,9 @@ fn has_room(k: Counts, r: u8) -> bool
     match r {
         2 => k.remaps < REMAPS_MOST,
         3 => k.types < TYPES_MOST,
-        4 => k.constants < CONSTANTS_MOST,
-        5 => k.globals < GLOBALS_MOST,
+        4 => k.functions < FUNCTIONS_MOST,
+        5 => k.constants < CONSTANTS_MOST,
+        6 => k.globals < GLOBALS_MOST,
         _ => true,
     }
 }

@@ -3,3 +3,4 @@ pub mod Hashes
 pub mod Earlier
 pub mod Adding
 pub mod Order
+pub mod Told

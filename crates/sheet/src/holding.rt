@@ -17,6 +17,7 @@ pub fn nothing() -> Counts
         available: 0,
         remaps: 0,
         types: 0,
+        functions: 0,
         constants: 0,
         globals: 0,
     }
@@ -41,7 +42,7 @@ fn note_type(types: &mut [u32], n: usize, at: usize, hash: u32)
     put(types, TYPES_MOST + n, hash as usize);
 }
 
-// Keeps the place of a record of rank r, and a type's hash.
+// Keeps the place of a record of rank r, and a type's hash. Of a function nothing is kept, since no record names one.
 fn note(
     remaps: &mut [u32],
     types: &mut [u32],
@@ -58,8 +59,8 @@ fn note(
     match r {
         2 => put(remaps, k.remaps, at),
         3 => note_type(types, k.types, at, hash),
-        4 => put(constants, k.constants, at),
-        5 => put(globals, k.globals, at),
+        5 => put(constants, k.constants, at),
+        6 => put(globals, k.globals, at),
         _ => {}
     }
 }
@@ -84,10 +85,14 @@ fn added(mut k: Counts, r: u8, at: usize) -> Counts
             k
         }
         4 => {
-            k.constants += 1;
+            k.functions += 1;
             k
         }
         5 => {
+            k.constants += 1;
+            k
+        }
+        6 => {
             k.globals += 1;
             k
         }

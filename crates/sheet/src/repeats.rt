@@ -1,4 +1,5 @@
-// Test 12: a type equal to an earlier one in name and all fields, or a remap of a group and binding already remapped.
+// Test 12: a type equal to an earlier one in name and all fields, or a remap of a group and binding already remapped. A function
+// equal to an earlier one is fit.
 // A record that passed test 8 is its fields, each in its one form, so types are equal if their tags and bodies are.
 use crate::bodies::same_up_to;
 use records::Counts;
@@ -159,6 +160,7 @@ pub fn is_repeated(
         2 => remap_read(sheet, remaps, counts.remaps, body),
         3 => type_read(sheet, types, counts.types, tag, body, hash),
         4 => false,
+        5 => false,
         _ => false,
     }
 }

@@ -41,11 +41,11 @@ module _ (b : List ℕ) where
   unfolding membersAt memberTypes
   types P = record { none = λ p. refl; more = λ p k. refl }
 
-  -- ---- the parts of a Compose
+  -- ---- numbers of 16 bits: a Compose's parts, a function's parameters
 
-  pub parts : (P : ℕ → Bool) → Walk (λ p k. every P (u16sAt b p k)) (λ p. P (u16At b p)) (λ p. p + 2)
+  pub numbers : (P : ℕ → Bool) → Walk (λ p k. every P (u16sAt b p k)) (λ p. P (u16At b p)) (λ p. p + 2)
   unfolding u16sAt
-  parts P = record { none = λ p. refl; more = λ p k. refl }
+  numbers P = record { none = λ p. refl; more = λ p k. refl }
 
   -- ---- where the members end
 

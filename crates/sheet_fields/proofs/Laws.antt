@@ -21,7 +21,7 @@ unless-both true b n x = refl
 unless-both false b n x = refl
 
 -- a record that is no constant has no form that could be unknown
-pub no-form : (t : ℕ) (b : List ℕ) → (tagRank t ≡ 4 → ⊥) → formKnown (recordOf t b) ≡ true
+pub no-form : (t : ℕ) (b : List ℕ) → (tagRank t ≡ 5 → ⊥) → formKnown (recordOf t b) ≡ true
 unfolding tagRank
 no-form t b h = go (eqb t 64) refl
   where

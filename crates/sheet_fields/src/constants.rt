@@ -70,11 +70,12 @@ pub fn one_below(body: &[u8], at: usize, most: usize) -> bool
     (fields::u16_at(body, at) as usize) < most
 }
 
-// Whether each of a Compose's n parts is below `most`.
-fn parts_below(b: &[u8], n: u16, most: usize) -> bool
-    ensures { λ r. ⌜ r ≡ below most (u16sAt (now (b .entry)) 4 n) ⌝ }
+// Whether each of the n numbers from `first` on is below `most`.
+pub fn each_below(b: &[u8], first: usize, n: u16, most: usize) -> bool
+    requires { ⌜ first < 1000 ⌝ }
+    ensures { λ r. ⌜ r ≡ below most (u16sAt (now (b .entry)) first n) ⌝ }
 {
-    let mut p = 4;
+    let mut p = first;
     let mut k = n;
     while 0 < k {
         if most <= fields::u16_at(b, p) as usize {
@@ -89,7 +90,7 @@ fn parts_below(b: &[u8], n: u16, most: usize) -> bool
 fn compose_read(b: &[u8], types: usize, constants: usize) -> bool
     ensures { λ r. ⌜ r ≡ (below types (u16At (now (b .entry)) 0 ∷ []) && below constants (u16sAt (now (b .entry)) 4 (u16At (now (b .entry)) 2))) ⌝ }
 {
-    one_below(b, 0, types) && parts_below(b, fields::u16_at(b, 2), constants)
+    one_below(b, 0, types) && each_below(b, 4, fields::u16_at(b, 2), constants)
 }
 
 pub fn read_already(tag: u8, body: &[u8], types: usize, constants: usize) -> bool

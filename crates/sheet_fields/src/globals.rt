@@ -27,8 +27,8 @@ pub fn values_fit(body: &[u8], n: usize) -> bool
     space_fits(fields::u8_at(body, n + 2), fields::u8_at(body, n + 3)) && binding_fits(body, n)
 }
 
-// An init of 65,535 is none.
-fn init_below(init: u16, most: usize) -> bool
+// Whether an init is below `most`; 65,535 is none. A return type is read so too, where none is void.
+pub fn init_below(init: u16, most: usize) -> bool
     ensures { λ r. ⌜ r ≡ below most (initList (initOf init)) ⌝ }
 {
     if init == 65535 {

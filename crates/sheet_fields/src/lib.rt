@@ -3,6 +3,7 @@
 // each kind of record, which finds the end of the name once. No field is kept here: `entries` takes them by value once the tests
 // are passed. What is no tag, which test 5 refuses, has a global's fields, here as in the definition.
 mod constants;
+mod functions;
 mod globals;
 mod members;
 mod types;
@@ -11,7 +12,7 @@ mod values;
 ghost use mathlib.Core.Path.{_≡_};
 ghost use Rattle.definition.specs.Bytes.{nameEnd};
 ghost use Rattle.definition.specs.Choice.{unless};
-ghost use Rattle.definition.specs.Sheet.{mapFields, available, availableFields, remap, remapFields, type, typeEntry, typeFields, constant, constantFields, global, globalFields};
+ghost use Rattle.definition.specs.Sheet.{mapFields, available, availableFields, remap, remapFields, type, typeEntry, typeFields, function, functionFields, constant, constantFields, global, globalFields};
 ghost use Rattle.definition.specs.Tests.{formKnown};
 ghost use Rattle.sheet_fields.specs.Fields.{recordOf, testsOf, fieldsTest};
 
@@ -58,6 +59,22 @@ fn type_test(tag: u8, body: &[u8], types: usize) -> u8
         return 10;
     }
     if !types::read_already(tag, body, n, types) {
+        return 11;
+    }
+    0
+}
+
+// A function has no name, and names no constant.
+fn function_test(body: &[u8], types: usize) -> u8
+    ensures { λ r. ⌜ r ≡ testsOf types 0 (now (body .entry)) (mapFields function (functionFields (now (body .entry)))) ⌝ }
+{
+    if functions::end_of(body) != body.len() {
+        return 8;
+    }
+    if !functions::values_fit(body) {
+        return 10;
+    }
+    if !functions::read_already(body, types) {
         return 11;
     }
     0
@@ -123,8 +140,9 @@ pub fn fields_test(tag: u8, body: &[u8], types: usize, constants: usize) -> u8
         1 => available_test(body),
         2 => remap_test(body),
         3 => type_test(tag, body, types),
-        4 => constant_test(tag, body, types, constants),
-        5 => global_test(body, types, constants),
+        4 => function_test(body, types),
+        5 => constant_test(tag, body, types, constants),
+        6 => global_test(body, types, constants),
         _ => global_test(body, types, constants),
     }
 }

@@ -9,7 +9,7 @@ use native.Mathlib.Omega.{arith}
 use lib.ListN.{length, drop, getD, length-drop}
 use lib.Seq.{length-take-le}
 use Rattle.definition.specs.Bytes.{u16At}
-use Rattle.definition.specs.Sheet.{Entry, Global, recordAt, entryOf, tagRank, startOf, flagsOf, Options, optionsOf, available, remap, type, constant, global}
+use Rattle.definition.specs.Sheet.{Entry, Function, Global, recordAt, entryOf, tagRank, startOf, flagsOf, Options, optionsOf, available, remap, type, function, constant, global}
 use Rattle.definition.specs.Tests.{Seen, refused, add, addRecord, headerTest, noRecord, spaceFits, bindingFits, valuesFit, readingTest}
 use Rattle.definition.specs.State.{State, empty}
 use Rattle.definition.specs.Rules.{declareEntry}
@@ -22,6 +22,7 @@ use Rattle.records.proofs.Places.{header-size, whole}
 use Rattle.records.proofs.Loop.{Going, start, goes-on, next-inside, ends-fit, ends-four, ends-refused, judge-go}
 use Rattle.sheet.specs.Hash.{HashFor, Hashed}
 use Rattle.sheet.specs.Holding.{noCounts, addCounts, PassedAt, RecordHeld as Kept}
+use Rattle.sheet.proofs.Told.{told, function-long}
 use Rattle.sheet.proofs.Adding.{looked, stored, counted, placed-of, rank-most}
 use Rattle.zeroable.specs.Memo.{Memo}
 use Rattle.availability.specs.declared.Available.{Available}
@@ -33,12 +34,11 @@ use Rattle.writer.specs.Steps.{fresh}
 use Rattle.sheet_writer.specs.declared.RecordOutcome.{RecordOutcome}
 use Rattle.sheet_writer.specs.Turning.{Before, Ready, RecordWritten, costAt}
 use Rattle.sheet_writer.specs.Whole.{recordsOf, beforeBound, Capacity, GlobalsFit, SheetFits}
-use Rattle.sheet_writer.proofs.Given.{told}
 use Rattle.sheet_writer.proofs.Rooms.{Used, no-room, roomy}
 
 -- what was read and what the rules have come to
-abbrev pub progressOf : List ℕ → Places → Counts → State → Progress
-progressOf s p k x = record { seen = seenOf s p k; state = x }
+abbrev pub progressOf : List ℕ → Places → Counts → List Function → State → Progress
+progressOf s p k fs x = record { seen = seenOf s p k fs; state = x }
 
 -- at the loop's head
 pub record Holds (s T₀ S₀ m₀ : List ℕ) (p₀ : Places) (nr nb : ℕ) (T S m : List ℕ) (p : Places) (at : ℕ) (k : Counts) (v : Available) (w : Writer) : Type 0 where
@@ -52,19 +52,21 @@ pub record Holds (s T₀ S₀ m₀ : List ℕ) (p₀ : Places) (nr nb : ℕ) (T 
   pub ample : Ample p
   pub few : WithinLimits k
   pub hashed : Hashed s (p .types) (k .types)
-  pub available : Flagged (seenOf s p k .available) v
+  pub functions : List Function
+  pub function-count : length functions ≡ k .functions
+  pub available : Flagged (seenOf s p k functions .available) v
   pub late : 0 < at
   pub small : length s ≤ 16384
   pub used : Used nr nb at k w
-  pub memo : Memo (seenOf s p k .types) m
-  pub globals-fit : GlobalsFit (seenOf s p k)
+  pub memo : Memo (seenOf s p k functions .types) m
+  pub globals-fit : GlobalsFit (seenOf s p k functions)
   pub state : State
   pub held : Held w T S state
-  pub going : Going recordTest (declareRecord (optionsOf (flagsOf s))) (recordsOf s) s at (progressOf s p k state)
+  pub going : Going recordTest (declareRecord (optionsOf (flagsOf s))) (recordsOf s) s at (progressOf s p k functions state)
 
 -- what was read, as a turn asks for it
-pub before : (s : List ℕ) (p : Places) (k : Counts) (v : Available) → Ample p → WithinLimits k → Flagged (seenOf s p k .available) v → Before s (p .remaps) (p .types) k v (seenOf s p k)
-before s p k v a f h = record { looked = looked s p k a f; available = h }
+pub before : (s : List ℕ) (p : Places) (k : Counts) (fs : List Function) (v : Available) → Ample p → WithinLimits k → length fs ≡ k .functions → Flagged (seenOf s p k fs .available) v → Before s (p .remaps) (p .types) k v (seenOf s p k fs)
+before s p k fs v a f e h = record { looked = looked s p k fs a f e; available = h }
 
 pub begins : (s T S m : List ℕ) (p : Places) (nr nb start′ : ℕ) (k : Counts) (v : Available) (w : Writer) → headerTest s ≡ 0 → Ample p → ((j : ℕ) → getD m j 0 ≡ 0) → k ≡ noCounts → Flagged none v
     → start′ ≡ startOf s → start′ ≤ 4294967295 → w ≡ fresh nr nb start′ → Held w T S (empty start′) → Holds s T S m p nr nb T S m p 6 k v w
@@ -80,8 +82,10 @@ begins s T S m p nr nb start′ k v w h a e ek ev es low ew held =
       constants = refl;
       globals = refl;
       ample = a;
-      few = record { remaps = omega arith; types = omega arith; constants = omega arith; globals = omega arith };
+      few = record { remaps = omega arith; types = omega arith; functions = omega arith; constants = omega arith; globals = omega arith };
       hashed = λ i l. absurd (omega arith);
+      functions = [];
+      function-count = refl;
       available = ev;
       late = omega arith;
       small = z .1;
@@ -90,7 +94,7 @@ begins s T S m p nr nb start′ k v w h a e ek ev es low ew held =
       globals-fit = λ i. refl;
       state = empty (startOf s);
       held = subst (λ (j : ℕ). Held w T S (empty j)) es held;
-      going = start recordTest (declareRecord (optionsOf (flagsOf s))) s 6 (progressOf s p noCounts (empty (startOf s))) (z .0);
+      going = start recordTest (declareRecord (optionsOf (flagsOf s))) s 6 (progressOf s p noCounts [] (empty (startOf s))) (z .0);
     })
 
 -- a memo speaks of the types read, and has a place for each; what is no type changes nothing
@@ -99,6 +103,7 @@ unfolding add
 memo-added n r (available cs) m l h = h
 memo-added n r (remap x) m l h = h
 memo-added n r (type t) m l h = grows (n .types) t m l h
+memo-added n r (function f) m l h = h
 memo-added n r (constant c) m l h = h
 memo-added n r (global g) m l h = h
 
@@ -108,6 +113,7 @@ unfolding add
 fits-added n r (available cs) v h = h
 fits-added n r (remap x) v h = h
 fits-added n r (type t) v h = h
+fits-added n r (function f) v h = h
 fits-added n r (constant c) v h = h
 fits-added n r (global g) v h = getD-snoc (λ (y : Global). valuesFit (global y) ≡ true) (n .globals) g noGlobal h v
 
@@ -125,7 +131,11 @@ module _ (s T₀ S₀ m₀ : List ℕ) (p₀ : Places) (nr nb : ℕ) (T S m : Li
   o = optionsOf (flagsOf s)
 
   abbrev now : Progress
-  now = progressOf s p k (h .state)
+  now = progressOf s p k (h .functions) (h .state)
+
+  -- what was read
+  abbrev seen : Seen
+  seen = seenOf s p k (h .functions)
 
   judged : recordsOf s ≡ beforeBound s
   judged = sym (judge-go _ _ ok)
@@ -134,6 +144,7 @@ module _ (s T₀ S₀ m₀ : List ℕ) (p₀ : Places) (nr nb : ℕ) (T S m : Li
   fits l = record {
     progress = now;
     same = ends-fit recordTest (declareRecord o) (recordsOf s) s at now (h .going) l ∙ judged;
+    functions = h .functions;
     seen = refl;
     globals = h .globals-fit;
     held = h .held;
@@ -161,16 +172,16 @@ module _ (s T₀ S₀ m₀ : List ℕ) (p₀ : Places) (nr nb : ℕ) (T S m : Li
       bytes-left : length rest ≤ 16384
       bytes-left = rw e (simp length-drop (omega (arith, h .small)))
 
-      tested-room : readingTest (seenOf s p k) (recordAt rest) ≡ 0 → Room (costAt rest) w T S × ((v : Writer) → Grown (costAt rest) w v → Used nr nb (at + l) (addCounts k (tagRank (recordAt rest .tag)) at) v)
+      tested-room : readingTest seen (recordAt rest) ≡ 0 → Room (costAt rest) w T S × ((v : Writer) → Grown (costAt rest) w v → Used nr nb (at + l) (addCounts k (tagRank (recordAt rest .tag)) at) v)
       tested-room z =
-          let q = placed-of (seenOf s p k) (recordAt rest) z in
+          let q = placed-of seen (recordAt rest) z in
           roomy s T S nr nb at k w (h .used) (h .few) (cap .for-bytes (h .small)) (cap .for-records) (omega (arith, cap .tables, h .tables)) (omega (arith, cap .sections, h .sections)) (h .small)
-          (seenOf s p k) (counted s p k (h .ample) (h .few)) l (omega arith) inside (tagRank (recordAt rest .tag)) (q .ranked) (rank-most (recordAt rest .tag)) (q .room)
+          seen (counted s p k (h .functions) (h .ample) (h .few) (h .function-count)) l (omega arith) inside (tagRank (recordAt rest .tag)) (q .ranked) (rank-most (recordAt rest .tag)) (λ e. omega (arith, function-long seen (recordAt rest) e z)) (q .room)
 
       pub ready : (i : ℕ) → HashFor (recordAt rest) i → Ready s (p .remaps) (p .types) k rest i T S m w
       ready i hi = record {
-        seen = seenOf s p k;
-        looked = looked s p k (h .ample) (h .few);
+        seen = seen;
+        looked = looked s p k (h .functions) (h .ample) (h .few) (h .function-count);
         stored = stored s p k (h .ample) (h .few) (h .hashed);
         hash = hi;
         few = h .few .types;
@@ -182,18 +193,18 @@ module _ (s T₀ S₀ m₀ : List ℕ) (p₀ : Places) (nr nb : ℕ) (T S m : Li
       module _ (t : RecordOutcome) (T′ S′ m′ : List ℕ) (turn : RecordWritten s (p .remaps) (p .types) k v rest o w T S t T′ S′ m′) where
         -- the definition's own test, in the state that is held
         tested : t .refused ≡ recordTest now (recordAt (drop at s))
-        tested = rw (← e) (turn .told (seenOf s p k) (before s p k v (h .ample) (h .few) (h .available)) (h .state) (h .held))
+        tested = rw (← e) (turn .told seen (before s p k (h .functions) v (h .ample) (h .few) (h .function-count) (h .available)) (h .state) (h .held))
 
         pub refuses : (t .refused ≡ 0 → ⊥) → refused (t .refused) ≡ beforeBound s
         refuses f = ends-refused recordTest (declareRecord o) (recordsOf s) s at now (h .going) lt whole-record (t .refused) tested f ∙ judged
 
         module _ (z : t .refused ≡ 0) where
-          read : readingTest (seenOf s p k) (recordAt (drop at s)) ≡ 0
+          read : readingTest seen (recordAt (drop at s)) ≡ 0
           unfolding recordTest
-          read = first-passed (readingTest (seenOf s p k) (recordAt (drop at s))) _ (sym tested ∙ z) .0
+          read = first-passed (readingTest seen (recordAt (drop at s))) _ (sym tested ∙ z) .0
 
           pub passed : PassedAt s p k at
-          passed = record { ample = h .ample; few = h .few; hashed = h .hashed; late = h .late; small = omega (arith, h .small); tested = read }
+          passed = record { ample = h .ample; few = h .few; hashed = h .hashed; late = h .late; small = omega (arith, h .small); functions = h .functions; counted = h .function-count; tested = read }
 
           pub turns : (p′ : Places) (k′ : Counts) (v′ : Available) (at′ : ℕ) → Kept s p k at p′ k′ → ((n : Seen) → Flagged (n .available) v → Flagged (addRecord n (recordAt rest) .available) v′) → at′ ≡ at + (2 + u16At rest 0)
               → length T′ ≡ length T → length S′ ≡ length S → length m′ ≡ length m
@@ -201,12 +212,14 @@ module _ (s T₀ S₀ m₀ : List ℕ) (p₀ : Places) (nr nb : ℕ) (T S m : Li
               → Holds s T₀ S₀ m₀ p₀ nr nb T′ S′ m′ p′ at′ k′ v′ (t .writer)
           unfolding declareRecord addRecord
           turns p′ k′ v′ at′ a av ea lT lS lm lr lt′ lc lg =
-              let b = looked s p k (h .ample) (h .few) in
+              let fs = addRecord seen (recordFrom s at) .functions in
+              let counts : length fs ≡ k′ .functions = a .functions (h .functions) (h .function-count) in
+              let b = looked s p k (h .functions) (h .ample) (h .few) (h .function-count) in
               let y = turn .written z in
-              let x = declareEntry o (seenOf s p k) (entryOf (recordAt (drop at s)) .value) (h .state) in
+              let x = declareEntry o seen (entryOf (recordAt (drop at s)) .value) (h .state) in
               let u = tested-room (rw e read) .1 (t .writer) (y .grown) in
               let en : at′ ≡ at + l = omega (arith, ea, record-length rest one .0) in
-              let places : length (seenOf s p′ k′ .types) ≤ length m′ = omega (arith, counted s p′ k′ (a .ample) (a .few) .types, a .few .types, lm, h .memo-length, cap .memo-length) in
+              let places : length (seenOf s p′ k′ fs .types) ≤ length m′ = omega (arith, counted s p′ k′ fs (a .ample) (a .few) counts .types, a .few .types, lm, h .memo-length, cap .memo-length) in
               record {
                 tables = lT ∙ h .tables;
                 sections = lS ∙ h .sections;
@@ -218,13 +231,15 @@ module _ (s T₀ S₀ m₀ : List ℕ) (p₀ : Places) (nr nb : ℕ) (T S m : Li
                 ample = a .ample;
                 few = a .few;
                 hashed = a .hashed;
-                available = subst (λ (n : Seen). Flagged (n .available) v′) (sym (a .seen)) (subst (λ (i : List ℕ). Flagged (addRecord (seenOf s p k) (recordAt i) .available) v′) e (av (seenOf s p k) (h .available)));
+                functions = fs;
+                function-count = counts;
+                available = subst (λ (n : Seen). Flagged (n .available) v′) (sym (a .seen (h .functions))) (subst (λ (i : List ℕ). Flagged (addRecord seen (recordAt i) .available) v′) e (av seen (h .available)));
                 late = omega (arith, ea, h .late);
                 small = h .small;
                 used = rw (en, a .counts, ← e) u;
-                memo = subst (λ (n : Seen). Memo (n .types) m′) (sym (a .seen)) (memo-added (seenOf s p k) (tagRank (recordFrom s at .tag)) (entryOf (recordFrom s at) .value) m′ (subst (λ (n : Seen). length (n .types) ≤ length m′) (a .seen) places) (turn .memo));
-                globals-fit = subst GlobalsFit (sym (a .seen)) (fits-added (seenOf s p k) (tagRank (recordFrom s at .tag)) (entryOf (recordFrom s at) .value) (told (seenOf s p k) (recordFrom s at) (entryOf (recordFrom s at)) refl read .values) (h .globals-fit));
+                memo = subst (λ (n : Seen). Memo (n .types) m′) (sym (a .seen (h .functions))) (memo-added seen (tagRank (recordFrom s at .tag)) (entryOf (recordFrom s at) .value) m′ (subst (λ (n : Seen). length (n .types) ≤ length m′) (a .seen (h .functions)) places) (turn .memo));
+                globals-fit = subst GlobalsFit (sym (a .seen (h .functions))) (fits-added seen (tagRank (recordFrom s at .tag)) (entryOf (recordFrom s at) .value) (told seen (recordFrom s at) (entryOf (recordFrom s at)) refl read .values) (h .globals-fit));
                 state = x;
-                held = subst (λ (i : List ℕ). Held (t .writer) T′ S′ (declareEntry o (seenOf s p k) (entryOf (recordAt i) .value) (h .state))) e (y .held (seenOf s p k) b (h .state) (h .held));
-                going = rw (ea, e, a .seen) (goes-on recordTest (declareRecord o) (recordsOf s) s at now (h .going) lt whole-record (sym tested ∙ z));
+                held = subst (λ (i : List ℕ). Held (t .writer) T′ S′ (declareEntry o seen (entryOf (recordAt i) .value) (h .state))) e (y .held seen b (h .state) (h .held));
+                going = rw (ea, e, a .seen (h .functions)) (goes-on recordTest (declareRecord o) (recordsOf s) s at now (h .going) lt whole-record (sym tested ∙ z));
               }

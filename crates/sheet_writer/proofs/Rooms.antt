@@ -1,7 +1,7 @@
 -- Room for the next record: what is in use is bounded by the bytes passed and by the records counted, of which each took three
 -- bytes at least, and what the caller lends is enough for the sheet's bytes and for as many records as a sheet can have.
 use Prim.Native.Nat.{ℕ, _+_, _*_, _≤_, _<_}
-use mathlib.Core.Path.{_≡_}
+use mathlib.Core.Path.{_≡_, refl}
 use mathlib.Core.Bool.{true}
 use mathlib.Core.Logic.{_⊎_, ⊎-elim}
 use mathlib.Core.List.{List}
@@ -19,9 +19,9 @@ use Rattle.writer.specs.Cost.{noCost}
 use Rattle.writer.specs.Held.{Room, Grown}
 use Rattle.sheet_writer.specs.Turning.{entryCost}
 
--- the records that are declared
+-- the records that are declared, a function record twice: it takes six bytes at least
 abbrev pub countOf : Counts → ℕ
-countOf k = k .types + k .constants + k .globals
+countOf k = k .types + 2 * k .functions + k .constants + k .globals
 
 -- what is in use after `at` bytes of the sheet
 pub record Used (nr nb at : ℕ) (k : Counts) (w : Writer) : Type 0 where
@@ -40,38 +40,46 @@ pub record Used (nr nb at : ℕ) (k : Counts) (w : Writer) : Type 0 where
   pub declarations : w .declarations ≤ 3 * at
   pub last : w .idgen .last ≤ 4294967295 + at
 
-module _ (s T S : List ℕ) (nr nb at : ℕ) (k : Counts) (w : Writer) (u : Used nr nb at k w) (f : WithinLimits k) (small : length s ≤ nb) (recs : (length s ≤ 3 * nr) ⊎ (576 ≤ nr))
+module _ (s T S : List ℕ) (nr nb at : ℕ) (k : Counts) (w : Writer) (u : Used nr nb at k w) (f : WithinLimits k) (small : length s ≤ nb) (recs : (length s ≤ 3 * nr) ⊎ (704 ≤ nr))
     (tables : 19 * nr + nb ≤ length T) (sections : 7 * nb ≤ length S) (short : length s ≤ 16384) where
   pub no-room : at ≤ length s → Room noCost w T S
   no-room inside = let e : countOf k ≤ nr = ⊎-elim (λ l. omega arith) (λ l. omega arith) recs in omega arith
 
   module _ (n : Seen) (c : Counted n k) (l : ℕ) (least : 3 ≤ l) (inside : at + l ≤ length s) where
     -- one more declared record
-    more-room : countOf k < 576 → Room (entryCost 3 l) w T S
+    more-room : countOf k < 704 → Room (entryCost 3 l) w T S
     more-room h = let e : countOf k + 1 ≤ nr = ⊎-elim (λ l. omega arith) (λ l. omega arith) recs in omega arith
 
+    -- or two
+    two-room : 6 ≤ l → countOf k + 2 ≤ 704 → Room (entryCost 4 l) w T S
+    two-room long h = let e : countOf k + 2 ≤ nr = ⊎-elim (λ l. omega arith) (λ l. omega arith) recs in omega arith
+
     abbrev Roomy : ℕ → Type 0
-    Roomy r = room n r ≡ true → Room (entryCost r l) w T S × ((v : Writer) → Grown (entryCost r l) w v → Used nr nb (at + l) (addCounts k r at) v)
+    Roomy r = (r ≡ 4 → 6 ≤ l) → room n r ≡ true → Room (entryCost r l) w T S × ((v : Writer) → Grown (entryCost r l) w v → Used nr nb (at + l) (addCounts k r at) v)
 
     roomy-1 : Roomy 1
     unfolding addCounts
-    roomy-1 h = (no-room (omega arith), λ v g. omega arith)
+    roomy-1 long h = (no-room (omega arith), λ v g. omega arith)
 
     roomy-2 : Roomy 2
     unfolding addCounts
-    roomy-2 h = (no-room (omega arith), λ v g. omega arith)
+    roomy-2 long h = (no-room (omega arith), λ v g. omega arith)
 
     roomy-3 : Roomy 3
     unfolding addCounts
-    roomy-3 h = let q = rw (c .types) at (ltb-true (length (n .types)) 256 h) in (more-room (omega arith), λ v g. omega arith)
+    roomy-3 long h = let q = rw (c .types) at (ltb-true (length (n .types)) 256 h) in (more-room (omega arith), λ v g. omega arith)
 
     roomy-4 : Roomy 4
     unfolding addCounts
-    roomy-4 h = let q = rw (c .constants) at (ltb-true (length (n .constants)) 256 h) in (more-room (omega arith), λ v g. omega arith)
+    roomy-4 long h = let q = rw (c .functions) at (ltb-true (length (n .functions)) 64 h) in let six = long refl in (two-room six (omega arith), λ v g. omega arith)
 
     roomy-5 : Roomy 5
     unfolding addCounts
-    roomy-5 h = let q = rw (c .globals) at (ltb-true (length (n .globals)) 64 h) in (more-room (omega arith), λ v g. omega arith)
+    roomy-5 long h = let q = rw (c .constants) at (ltb-true (length (n .constants)) 256 h) in (more-room (omega arith), λ v g. omega arith)
 
-    pub roomy : (r : ℕ) → 0 < r → r ≤ 5 → Roomy r
-    roomy = by-rank Roomy roomy-1 roomy-2 roomy-3 roomy-4 roomy-5
+    roomy-6 : Roomy 6
+    unfolding addCounts
+    roomy-6 long h = let q = rw (c .globals) at (ltb-true (length (n .globals)) 64 h) in (more-room (omega arith), λ v g. omega arith)
+
+    pub roomy : (r : ℕ) → 0 < r → r ≤ 6 → Roomy r
+    roomy = by-rank Roomy roomy-1 roomy-2 roomy-3 roomy-4 roomy-5 roomy-6

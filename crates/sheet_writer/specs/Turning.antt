@@ -4,7 +4,7 @@ use mathlib.Core.Path.{_≡_}
 use mathlib.Core.Bool.{Bool}
 use mathlib.Core.List.{List}
 use mathlib.Core.Option.{Option}
-use lib.Dec.{ltb}
+use lib.Dec.{eqb, ltb}
 use lib.ListN.{length}
 use Rattle.definition.specs.Bytes.{nameEnd}
 use Rattle.definition.specs.Choice.{pick, unless}
@@ -23,7 +23,7 @@ use Rattle.zeroable.specs.Memo.{Memo}
 use Rattle.availability.specs.declared.Available.{Available}
 use Rattle.availability.specs.Flags.{Flagged}
 use Rattle.writer.specs.declared.Writer.{Writer}
-use Rattle.writer.specs.Cost.{Cost, noCost, recordCost}
+use Rattle.writer.specs.Cost.{Cost, noCost, aComposite, recordCost, _⊕_}
 use Rattle.writer.specs.Held.{Held, Room, Grown}
 use Rattle.sheet_writer.specs.declared.RecordOutcome.{RecordOutcome}
 
@@ -32,9 +32,9 @@ pub record Before (s rs ts : List ℕ) (k : Counts) (a : Available) (n : Seen) :
   pub looked : Looked s rs ts k n
   pub available : Flagged (n .available) a
 
--- a record of n bytes and a rank: Available and Remap are not declared
+-- a record of n bytes and a rank: Available and Remap are not declared, and a function record may declare void too
 abbrev pub entryCost : ℕ → ℕ → Cost
-entryCost rank n = pick (ltb 2 rank) (recordCost n) noCost
+entryCost rank n = pick (eqb rank 4) (recordCost n ⊕ aComposite 0) (pick (ltb 2 rank) (recordCost n) noCost)
 
 -- the cost of the record at the front of what is left
 abbrev pub costAt : List ℕ → Cost

@@ -5,8 +5,8 @@ use mathlib.Core.List.{List}
 use mathlib.Core.Logic.{_⊎_}
 use lib.ListN.{length, drop, getD}
 use mathlib.Core.Bool.{true}
-use Rattle.definition.specs.Sheet.{headerLength, startOf, flagsOf, optionsOf, global}
-use Rattle.definition.specs.Tests.{Seen, valuesFit, Judged, fit, refused, judge, headerTest, records, sheetMost, typesMost, constantsMost, globalsMost}
+use Rattle.definition.specs.Sheet.{Function, headerLength, startOf, flagsOf, optionsOf, global}
+use Rattle.definition.specs.Tests.{Seen, valuesFit, Judged, fit, refused, judge, headerTest, records, sheetMost, typesMost, functionsMost, constantsMost, globalsMost}
 use Rattle.definition.specs.Operations.{Progress, begin, recordTest, declareRecord, noGlobal}
 use Rattle.records.specs.declared.Counts.{Counts}
 use Rattle.records.specs.Places.{Places, seenOf, Ample, WithinLimits}
@@ -23,9 +23,9 @@ recordsOf s = records recordTest (declareRecord (optionsOf (flagsOf s))) (length
 abbrev pub beforeBound : List ℕ → Judged Progress
 beforeBound s = judge (headerTest s) (recordsOf s)
 
--- as many types, constants and globals as a sheet can have
+-- as many records as a sheet can have declared; a function record counts as two, since it may declare void too
 abbrev pub recordsMost : ℕ
-recordsMost = typesMost + constantsMost + globalsMost
+recordsMost = typesMost + 2 * functionsMost + constantsMost + globalsMost
 
 -- what the caller lends is enough for the sheet: a record takes three bytes at least
 pub record Capacity (s : List ℕ) (records bytes : ℕ) (T S m : List ℕ) : Type 0 where
@@ -44,8 +44,9 @@ GlobalsFit n = (i : ℕ) → valuesFit (global (getD (n .globals) i noGlobal)) �
 pub record SheetFits (s : List ℕ) (bytes : ℕ) (p : Places) (T S : List ℕ) (k : Counts) (w : Writer) : Type 0 where
   pub progress : Progress
   pub same : fit progress ≡ beforeBound s
-  pub seen : progress .seen ≡ seenOf s p k
-  pub globals : GlobalsFit (seenOf s p k)
+  pub functions : List Function
+  pub seen : progress .seen ≡ seenOf s p k functions
+  pub globals : GlobalsFit (seenOf s p k functions)
   pub held : Held w T S (progress .state)
   pub ample : Ample p
   pub few : WithinLimits k

@@ -9,6 +9,7 @@ use sheet::holding;
 use writer::Writer;
 use writer_constants::expressions::write_constant_expr;
 use writer_constants::fitness::expression_fits;
+use writer_functions::write_function_type;
 use writer_globals::fitness::global_fits;
 use writer_types::write_type_declaration_arena;
 ghost use mathlib.Core.Path.{_≡_};
@@ -160,7 +161,7 @@ fn write_global(
 }
 
 // The turn of the record at the front of what is left: tests 5 to 12, then those of its kind and its declaration. A type's hash is
-// given. Each kind takes its entry from the record once, for its test and for its declaration.
+// given. Each kind takes its entry from the record once, for its test and for its declaration; a function record has no test more.
 fn write_record(
     tables: &mut [u64],
     sections: &mut [u32],
@@ -200,8 +201,12 @@ fn write_record(
             body,
             options.debug,
         ),
-        4 => write_constant(tables, sections, memo, w, s, types, k.types, tag, body),
-        5 => write_global(
+        4 => RecordOutcome {
+            refused: 0,
+            writer: write_function_type(tables, sections, w, body),
+        },
+        5 => write_constant(tables, sections, memo, w, s, types, k.types, tag, body),
+        6 => write_global(
             tables,
             sections,
             memo,

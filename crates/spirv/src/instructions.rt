@@ -7,7 +7,7 @@
 // sheet's limits are far below the bound, so that callers meet it at once.
 ghost use mathlib.Core.List.{[], _∷_, map};
 ghost use Prim.Native.Nat.{_<_};
-ghost use Rattle.definition.specs.Instructions.{words, capability, name, memberName, typeBool, typeInt, typeFloat, typeVector, typeMatrix, typeImage, typeSampler, typeAccelerationStructure, typeRayQuery, typeArray, typeRuntimeArray, typeStruct, typePointer, decorate, memberDecorate, constantTrue, constantFalse, constantNull, constantOp, constantComposite, variable};
+ghost use Rattle.definition.specs.Instructions.{words, capability, name, memberName, typeVoid, typeBool, typeInt, typeFloat, typeVector, typeMatrix, typeImage, typeSampler, typeAccelerationStructure, typeRayQuery, typeArray, typeRuntimeArray, typeStruct, typePointer, typeFunction, decorate, memberDecorate, constantTrue, constantFalse, constantNull, constantOp, constantComposite, variable};
 ghost use Rattle.spirv.specs.Put.{Put, FitsWordCount};
 ghost use Rattle.spirv.specs.Heads.{structHead};
 ghost use Rattle.spirv.specs.Ids.{low, initWord};
@@ -25,6 +25,8 @@ const OP_NAME: u32 = 5;
 const OP_MEMBER_NAME: u32 = 6;
 
 const OP_CAPABILITY: u32 = 17;
+
+const OP_TYPE_VOID: u32 = 19;
 
 const OP_TYPE_BOOL: u32 = 20;
 
@@ -47,6 +49,8 @@ const OP_TYPE_RUNTIME_ARRAY: u32 = 29;
 const OP_TYPE_STRUCT: u32 = 30;
 
 const OP_TYPE_POINTER: u32 = 32;
+
+const OP_TYPE_FUNCTION: u32 = 33;
 
 const OP_CONSTANT_TRUE: u32 = 41;
 
@@ -138,6 +142,12 @@ pub fn capability(sink: &mut [u32], number: u32) -> usize
 }
 
 // ---- types
+
+pub fn type_void(sink: &mut [u32], id: u32) -> usize
+    ensures { λ r. ⌜ Put (words (typeVoid id)) (now (sink .entry)) (now (sink .exit)) r ⌝ }
+{
+    put_type(sink, OP_TYPE_VOID, &[id])
+}
 
 pub fn type_bool(sink: &mut [u32], id: u32) -> usize
     ensures { λ r. ⌜ Put (words (typeBool id)) (now (sink .entry)) (now (sink .exit)) r ⌝ }
@@ -247,6 +257,14 @@ pub fn type_pointer(sink: &mut [u32], id: u32, class: u32, base: u32) -> usize
     ensures { λ r. ⌜ Put (words (typePointer id class base)) (now (sink .entry)) (now (sink .exit)) r ⌝ }
 {
     put_type(sink, OP_TYPE_POINTER, &[id, class, base])
+}
+
+// The id of the return type comes first, then those of the parameters.
+pub fn type_function(sink: &mut [u32], id: u32, types: &[u64]) -> usize
+    requires { ⌜ FitsWordCount (now types) ⌝ }
+    ensures { λ r. ⌜ Put (words (typeFunction id (map low (now (types .entry))))) (now (sink .entry)) (now (sink .exit)) r ⌝ }
+{
+    put_id_list(sink, OP_TYPE_FUNCTION, &[id], types)
 }
 
 // ---- constants

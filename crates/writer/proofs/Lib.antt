@@ -6,3 +6,4 @@ pub mod Spelt
 pub mod Names
 pub mod Parts
 pub mod Values
+pub mod Staged

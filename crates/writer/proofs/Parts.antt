@@ -1,6 +1,6 @@
 -- Searching composites by their parts, and that the search is the definition's lookup: first two lists of numbers part by part,
 -- then one row, whose parts are a window of the table's parts, then all rows by induction.
-use Prim.Native.Nat.{ℕ, zero, suc, _+_, _-_, _≤_, _<_}
+use Prim.Native.Nat.{ℕ, zero, suc, _+_, _-_, _%_, _≤_, _<_}
 use mathlib.Core.Path.{_≡_, refl, sym, ap, _∙_}
 use mathlib.Core.Bool.{Bool, true, false, _&&_}
 use mathlib.Core.List.{List, [], _∷_, map}
@@ -12,16 +12,16 @@ use lib.ListN.{length, getD, take, drop, length-append, length-drop, drop-of-len
 use lib.Seq.{length-take-le, take-take, take-add, take-at, drop-at, drop-drop, drop-cons, getD-take, getD-drop}
 use borrow.Author.Tests.{eq-eqb, ne-eqb, eqb-true, lt-ltb, le-ltb}
 use Rattle.definition.specs.Choice.{pick}
-use Rattle.definition.specs.Shapes.{Key}
-use Rattle.definition.specs.State.{Composite, composite, sameComposite, lookup}
-use Rattle.lookup.specs.Packed.{packedKey, Small}
+use Rattle.definition.specs.Shapes.{Key, one, many, scalar, vector, matrix, pointer, valuePointer, image, sampler, accelerationStructure, rayQuery, bindingArray, bindingPointer, entry, shape}
+use Rattle.definition.specs.State.{Composite, composite, sameComposite, lookup, function, void}
+use Rattle.lookup.specs.Packed.{packedKey}
 use Rattle.lookup.proofs.Injective.{injective}
 use Rattle.writer.specs.declared.Writer.{Writer}
 use Rattle.writer.specs.declared.Sought.{Sought}
 use Rattle.writer.specs.Rows.{TableRow, tableRow, triple, tableRows, part, sameList, seekParts, soughtOf}
 use Rattle.writer.specs.Regions.{compositesAt, partsAt}
 use Rattle.writer.specs.Cost.{staging}
-use Rattle.writer.specs.Held.{Tables, All, keyOfC, partsOfC, compositeRow, allParts, RoomIn}
+use Rattle.writer.specs.Held.{Tables, All, SmallComposite, compositeKey, partsOfC, compositeRow, allParts, RoomIn}
 use Rattle.writer.specs.Steps.{FindsComposite}
 
 -- ---- lists of numbers
@@ -131,21 +131,46 @@ module _ (key : ℕ) (ps : List ℕ) (q : ℕ) (T : List ℕ) (p o : ℕ) where
 no-row : TableRow
 no-row = tableRow 0 0 0
 
-whole : (c : Composite) → c ≡ composite (keyOfC c) (partsOfC c)
-whole (composite k ps) = refl
+-- a key's last digit to base 16 says which key it is, and is 12 at most
+last-digit : (k : Key) → packedKey k % 16 ≤ 12
+last-digit (entry h) = omega arith
+last-digit (shape (scalar k)) = omega arith
+last-digit (shape (vector n k)) = omega arith
+last-digit (shape (matrix c r w)) = omega arith
+last-digit (shape (pointer b c)) = omega arith
+last-digit (shape (valuePointer one k c)) = omega arith
+last-digit (shape (valuePointer (many n) k c)) = omega arith
+last-digit (shape (image k d p a m s f)) = omega arith
+last-digit (shape sampler) = omega arith
+last-digit (shape accelerationStructure) = omega arith
+last-digit (shape rayQuery) = omega arith
+last-digit (shape (bindingArray b n)) = omega arith
+last-digit (shape (bindingPointer b n s a)) = omega arith
 
-pub seek-composite : (k : Key) → Small k → (xs : List ℕ) (q : ℕ) (T : List ℕ) (p o n : ℕ) (cs : List (Composite × ℕ)) → All (λ (c : Composite). Small (keyOfC c)) cs
+-- number and parts tell it
+same-composite : (x y : Composite) → SmallComposite x → SmallComposite y → compositeKey x ≡ compositeKey y → partsOfC x ≡ partsOfC y → x ≡ y
+same-composite (composite k xs) (composite l ys) p q e f = let g = injective k l p q e in λ i. composite (g i) (f i)
+same-composite (composite k xs) (function ys) p q e f = absurd (omega (arith, last-digit k))
+same-composite (composite k xs) void p q e f = absurd (omega (arith, last-digit k))
+same-composite (function xs) (composite l ys) p q e f = absurd (omega (arith, last-digit l))
+same-composite (function xs) (function ys) p q e f = ap function f
+same-composite (function xs) void p q e f = absurd (omega arith)
+same-composite void (composite l ys) p q e f = absurd (omega (arith, last-digit l))
+same-composite void (function ys) p q e f = absurd (omega arith)
+same-composite void void p q e f = refl
+
+pub seek-composite : (v : Composite) → SmallComposite v → (q : ℕ) (T : List ℕ) (p o n : ℕ) (cs : List (Composite × ℕ)) → All SmallComposite cs
     → tableRows triple T p n ≡ map compositeRow cs → o ≤ q → q ≤ length T → part T o (q - o) ≡ allParts cs
-    → seekParts (packedKey k) xs q T p o n ≡ lookup sameComposite (composite k xs) cs
+    → seekParts (compositeKey v) (partsOfC v) q T p o n ≡ lookup sameComposite v cs
 unfolding seekParts tableRows allParts lookup
-seek-composite k sk xs q T p o zero [] a e ho hq f = refl
-seek-composite k sk xs q T p o zero (c ∷ cs) a e ho hq f = let z : _≡_ {A = ℕ} 0 1 = cc in absurd (omega arith)
-seek-composite k sk xs q T p o (suc n) [] a e ho hq f = let z : _≡_ {A = ℕ} 0 1 = cc in absurd (omega arith)
-seek-composite k sk xs q T p o (suc n) (c ∷ cs) a e ho hq f =
+seek-composite v sv q T p o zero [] a e ho hq f = refl
+seek-composite v sv q T p o zero (c ∷ cs) a e ho hq f = let z : _≡_ {A = ℕ} 0 1 = cc in absurd (omega arith)
+seek-composite v sv q T p o (suc n) [] a e ho hq f = let z : _≡_ {A = ℕ} 0 1 = cc in absurd (omega arith)
+seek-composite v sv q T p o (suc n) (c ∷ cs) a e ho hq f =
     let ps = partsOfC (c .0) in
     let l = getD T (p + 1) 0 in
     let X = drop o T in
-    let e0 : getD T p 0 ≡ packedKey (keyOfC (c .0)) = ap (λ (r : List TableRow). getD r 0 no-row .first) e in
+    let e0 : getD T p 0 ≡ compositeKey (c .0) = ap (λ (r : List TableRow). getD r 0 no-row .first) e in
     let e1 : l ≡ length ps = ap (λ (r : List TableRow). getD r 0 no-row .second) e in
     let e2 : getD T (p + 2) 0 ≡ c .1 = ap (λ (r : List TableRow). getD r 0 no-row .id) e in
     let et : tableRows triple T (p + 3) n ≡ map compositeRow cs = ap (drop 1) e in
@@ -158,31 +183,28 @@ seek-composite k sk xs q T p o (suc n) (c ∷ cs) a e ho hq f =
     ∙ sym (drop-at (take l X) (take (q - (o + l)) (drop l X)) l (part-length T o l (omega arith)))
     ∙ ap (drop l) (sym (take-add l (q - (o + l)) X) ∙ ap (λ (j : ℕ). take j X) (sym m) ∙ f)
     ∙ drop-at ps (allParts cs) l (sym e1) in
-    let rec = seek-composite k sk xs q T (p + 3) (o + l) n cs (a .1) et (omega arith) hq r in
-    rw (le-ltb (q - o) l h) (rw (e0, g, e2) (go (sameComposite (composite k xs) (c .0)) rec (eqb (packedKey (keyOfC (c .0))) (packedKey k)) (sameList ps xs) refl refl))
+    let rec = seek-composite v sv q T (p + 3) (o + l) n cs (a .1) et (omega arith) hq r in
+    rw (le-ltb (q - o) l h) (rw (e0, g, e2) (go (sameComposite v (c .0)) rec (eqb (compositeKey (c .0)) (compositeKey v)) (sameList ps (partsOfC v)) refl refl))
   where
-    go : (d : Dec (composite k xs ≡ c .0)) → {rest : Option ℕ} → rest ≡ lookup sameComposite (composite k xs) cs
-        → (b t : Bool) → eqb (packedKey (keyOfC (c .0))) (packedKey k) ≡ b → sameList (partsOfC (c .0)) xs ≡ t
-        → pick (eqb (packedKey (keyOfC (c .0))) (packedKey k) && sameList (partsOfC (c .0)) xs) (some (c .1)) rest
-        ≡ elim d [ yes x ↦ some (c .1) | no x ↦ lookup sameComposite (composite k xs) cs ]
-    go (yes x) r b t u v =
-        let y : keyOfC (c .0) ≡ k = sym (ap keyOfC x) in
-        let z : partsOfC (c .0) ≡ xs = sym (ap partsOfC x) in
-        let i : sameList (partsOfC (c .0)) xs ≡ true = ap (λ (j : List ℕ). sameList j xs) z ∙ list-same xs in
-        rw (eq-eqb (packedKey (keyOfC (c .0))) (packedKey k) (ap packedKey y), i)
-    go (no x) r true true u v =
-        let y : keyOfC (c .0) ≡ k = injective (keyOfC (c .0)) k (a .0) sk (eqb-true _ _ u) in
-        let z : partsOfC (c .0) ≡ xs = list-equal (partsOfC (c .0)) xs v in
-        absurd (x (sym (whole (c .0) ∙ (λ j. composite (y j) (z j)))))
-    go (no x) r true false u v = rw (u, v) r
-    go (no x) r false t u v = rw u r
+    go : (d : Dec (v ≡ c .0)) → {rest : Option ℕ} → rest ≡ lookup sameComposite v cs
+        → (b t : Bool) → eqb (compositeKey (c .0)) (compositeKey v) ≡ b → sameList (partsOfC (c .0)) (partsOfC v) ≡ t
+        → pick (eqb (compositeKey (c .0)) (compositeKey v) && sameList (partsOfC (c .0)) (partsOfC v)) (some (c .1)) rest
+        ≡ elim d [ yes x ↦ some (c .1) | no x ↦ lookup sameComposite v cs ]
+    go (yes x) r b t u w =
+        let y : compositeKey (c .0) ≡ compositeKey v = sym (ap compositeKey x) in
+        let z : partsOfC (c .0) ≡ partsOfC v = sym (ap partsOfC x) in
+        let i : sameList (partsOfC (c .0)) (partsOfC v) ≡ true = ap (λ (j : List ℕ). sameList j (partsOfC v)) z ∙ list-same (partsOfC v) in
+        rw (eq-eqb (compositeKey (c .0)) (compositeKey v) y, i)
+    go (no x) r true true u w = absurd (x (sym (same-composite (c .0) v (a .0) sv (eqb-true _ _ u) (list-equal (partsOfC (c .0)) (partsOfC v) w))))
+    go (no x) r true false u w = rw (u, w) r
+    go (no x) r false t u w = rw u r
 
 pub finds-composite : (w : Writer) (T : List ℕ) (r : Sought) (key n : ℕ) → RoomIn (staging n) w T
     → soughtOf r ≡ seekParts key (part T (partsAt w + w .parts) n) (partsAt w + w .parts) T (compositesAt w) (partsAt w) (w .composites) → FindsComposite key n w T r
-finds-composite w T r key n room q k sm e S s h =
+finds-composite w T r key n room q c sm e f S s h =
     let end = partsAt w + w .parts in
     let d : end - partsAt w ≡ w .parts = omega arith in
-    q ∙ ap (λ (m : ℕ). seekParts m (part T end n) end T (compositesAt w) (partsAt w) (w .composites)) e
-    ∙ seek-composite k sm (part T end n) end T (compositesAt w) (partsAt w) (w .composites) (s .constants .composites) (h .small .composed)
+    q ∙ (λ j. seekParts (e j) (f j) end T (compositesAt w) (partsAt w) (w .composites))
+    ∙ seek-composite c sm end T (compositesAt w) (partsAt w) (w .composites) (s .constants .composites) (h .small .composed)
     (ap (λ (t : Tables). t .composites) (h .tables)) (omega arith) (omega arith)
     (ap (λ (m : ℕ). part T (partsAt w) m) d ∙ ap (λ (t : Tables). t .parts) (h .tables))

@@ -4,7 +4,7 @@ use mathlib.Core.Path.{_≡_, sym}
 use mathlib.Core.List.{List, [], _∷_, map}
 use native.Mathlib.Omega.{arith}
 use lib.ListN.{length, getD}
-use Rattle.definition.specs.Instructions.{Instruction, words, decorate, memberDecorate, typeArray, typeRuntimeArray, typeStruct, typePointer, constantTrue, constantFalse, constantNull, constantOp, constantComposite, variable}
+use Rattle.definition.specs.Instructions.{Instruction, words, decorate, memberDecorate, typeOp, typeVoid, typeArray, typeRuntimeArray, typePointer, constantTrue, constantFalse, constantNull, constantOp, constantComposite, variable}
 use Rattle.spirv.specs.declared.instructions.Initializer.{Initializer}
 use Rattle.spirv.specs.declared.instructions.Initializer.the-variants.{Nothing, Id}
 use Rattle.spirv.specs.Put.{Put}
@@ -53,6 +53,12 @@ decorates-member t i d xs e hi hd few h =
     record { few = omega arith; spelt = λ j. f j ∷ p j ∷ o j ∷ q j ∷ r j }
 
 -- ---- declarations
+
+pub void : (id : ℕ) {id′ : ℕ} → id′ ≡ low id → Spells 2 (typeVoid id) (words (typeVoid id′))
+unfolding words
+void id hid =
+    let eid = sym hid in
+    record { few = omega arith; spelt = λ j. 131091 ∷ eid j ∷ [] }
 
 pub array : (id element size : ℕ) {id′ element′ size′ : ℕ} → id′ ≡ low id → element′ ≡ low element → size′ ≡ low size → Spells 4 (typeArray id element size) (words (typeArray id′ element′ size′))
 unfolding words
@@ -115,11 +121,12 @@ two-words ty id a b hty hid ha hb =
     let eb : low b ≡ b = omega arith in
     record { few = omega arith; spelt = λ j. 327723 ∷ ety j ∷ eid j ∷ ea j ∷ eb j ∷ [] }
 
-pub struct-of : (id : ℕ) (xs : List ℕ) {x : ℕ} → x ≡ low id → length xs < 65000 → Spells (length xs + 2) (typeStruct id xs) (words (typeStruct x (map low xs)))
+-- a type whose operands are ids: a struct, a function type
+pub type-of : (op : ℕ) → op < 65536 → (id : ℕ) (xs : List ℕ) {x : ℕ} → x ≡ low id → length xs < 65000 → Spells (length xs + 2) (typeOp op id xs) (words (typeOp op x (map low xs)))
 unfolding words
-struct-of id xs e few =
+type-of op small id xs e few =
     let l = low-length xs in
-    let f : low (65536 * suc (suc (length xs)) + 30) ≡ 65536 * suc (suc (length (map low xs))) + 30 = omega (arith, l) in
+    let f : low (65536 * suc (suc (length xs)) + op) ≡ 65536 * suc (suc (length (map low xs))) + op = omega (arith, l) in
     let p = sym e in
     record { few = omega (arith, l); spelt = λ j. f j ∷ p j ∷ map low xs }
 

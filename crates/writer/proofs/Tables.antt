@@ -6,14 +6,14 @@ use mathlib.Core.List.{List, [], _∷_, _++_, append-assoc, append-nil, map}
 use native.Mathlib.Omega.{arith}
 use lib.ListN.{length, take, drop, length-drop}
 use lib.Seq.{length-take-le, take-add, drop-drop}
-use Rattle.definition.specs.State.{Composite, composite, Valued}
+use Rattle.definition.specs.State.{Composite, Valued}
 use Rattle.lookup.specs.Packed.{Small}
 use Rattle.spirv.specs.Sections.{splice}
 use Rattle.writer.specs.declared.Writer.{Writer}
 use Rattle.writer.specs.Rows.{TableRow, tableRow, RowKind, pair, triple, rowLength, tableRows, part}
 use Rattle.writer.specs.Regions.{literalsAt, nullsAt, valuesAt, compositesAt, partsAt}
 use Rattle.writer.specs.Cost.{aType, aLiteral, aNull, aValue, aComposite}
-use Rattle.writer.specs.Held.{Tables, tablesOf, tablesIn, keyRow, literalRow, nullRow, valueRow, compositeRow, keyOfC, partsOfC, allParts, All, AllKinds, SmallKind, RoomIn}
+use Rattle.writer.specs.Held.{Tables, tablesOf, tablesIn, keyRow, literalRow, nullRow, valueRow, compositeRow, SmallComposite, partsOfC, allParts, All, AllKinds, SmallKind, RoomIn}
 use Rattle.writer.specs.Steps.{EnteredType, EnteredLiteral, EnteredNull, EnteredComposite, EnteredValue}
 use Rattle.writer.proofs.Regions.{left, right, behind, rows-agree, pair-put, triple-put, rows-more, part-right}
 
@@ -144,10 +144,9 @@ module _ (w : Writer) (T : List ℕ) where
   pub entered-composite : (key n id : ℕ) → RoomIn (aComposite n) w T → EnteredComposite key n id w T (moreComposites w n) (splice T (compositesAt w + 3 * w .composites) (key ∷ n ∷ id ∷ []))
   entered-composite key n id room = record {
     grown = omega arith;
-    held = λ k sm e xs f S s h.
-        let c = composite k xs in
+    held = λ c sm e f S s h.
         let cs = s .constants .composites in
-        let len : n ≡ length xs = sym (length-take-le n (drop (partsAt w + w .parts) T) (simp length-drop (omega arith))) ∙ ap length f in
+        let len : n ≡ length (partsOfC c) = sym (length-take-le n (drop (partsAt w + w .parts) T) (simp length-drop (omega arith))) ∙ ap length f in
         record {
           last = h .last;
           tables = composites-row w T key n id room
@@ -160,7 +159,7 @@ module _ (w : Writer) (T : List ℕ) where
                 composites = ((λ j. map compositeRow cs ++ tableRow (e j) (len j) id ∷ []) ∙ map-snoc compositeRow cs (c, id)) i;
                 parts = (ap (λ (l : List ℕ). allParts cs ++ l) f ∙ parts-snoc cs c id) i;
               });
-          small = record { keys = h .small .keys; composed = all-snoc (λ (x : Composite). Small (keyOfC x)) cs c id sm (h .small .composed); kinds = h .small .kinds };
+          small = record { keys = h .small .keys; composed = all-snoc SmallComposite cs c id sm (h .small .composed); kinds = h .small .kinds };
           sections = h .sections;
         };
   }

@@ -7,7 +7,7 @@ use lib.ListN.{length}
 use Rattle.definition.specs.Literals.{Literal}
 use Rattle.definition.specs.Instructions.{Instruction, allWords}
 use Rattle.definition.specs.Shapes.{Kind, Key}
-use Rattle.definition.specs.State.{State, Composite, composite, Valued}
+use Rattle.definition.specs.State.{State, Composite, composite, Valued, function, void}
 use Rattle.literals.specs.Forms.{literalForm, bitsOf}
 use Rattle.lookup.specs.Packed.{packedKey, code, Small}
 use Rattle.writer.specs.declared.Writer.{Writer}
@@ -69,15 +69,27 @@ kindCode (some k) = 1 + code k
 abbrev pub valueRow : Valued → TableRow
 valueRow v = tableRow (v .id) (v .type) (kindCode (v .kind))
 
-abbrev pub keyOfC : Composite → Key
-keyOfC (composite k ps) = k
+-- what is shared by ids, as a number and the ids: a composite's number is its type's key; 13 and 14 are no key's last digit to base
+-- 16, and so no key
+abbrev pub compositeKey : Composite → ℕ
+compositeKey (composite k ps) = packedKey k
+compositeKey (function ps) = 13
+compositeKey void = 14
 
 abbrev pub partsOfC : Composite → List ℕ
 partsOfC (composite k ps) = ps
+partsOfC (function ps) = ps
+partsOfC void = []
+
+-- its key is made of digits
+abbrev pub SmallComposite : Composite → Type 0
+SmallComposite (composite k ps) = Small k
+SmallComposite (function ps) = Unit
+SmallComposite void = Unit
 
 -- a composite's parts stand apart, one composite's behind the other's
 abbrev pub compositeRow : Composite × ℕ → TableRow
-compositeRow x = tableRow (packedKey (keyOfC (x .0))) (length (partsOfC (x .0))) (x .1)
+compositeRow x = tableRow (compositeKey (x .0)) (length (partsOfC (x .0))) (x .1)
 
 unfoldable pub allParts : List (Composite × ℕ) → List ℕ
 allParts [] = []
@@ -120,7 +132,7 @@ AllKinds (v ∷ vs) = SmallKind (v .kind) × AllKinds vs
 -- what is packed into one number is made of digits
 pub record Digits (types : List (Key × ℕ)) (composites : List (Composite × ℕ)) (values : List Valued) : Type 0 where
   pub keys : All Small types
-  pub composed : All (λ (c : Composite). Small (keyOfC c)) composites
+  pub composed : All SmallComposite composites
   pub kinds : AllKinds values
 
 -- ---- the writer and its lists hold the state

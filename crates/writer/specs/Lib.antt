@@ -3,3 +3,4 @@ pub mod Regions
 pub mod Cost
 pub mod Held
 pub mod Steps
+pub mod Staged

@@ -10,7 +10,7 @@ use Rattle.definition.specs.Choice.{pick}
 use Rattle.definition.specs.Literals.{Literal, sameLiteral}
 use Rattle.definition.specs.Instructions.{Instruction, words}
 use Rattle.definition.specs.Shapes.{Kind, Key, sameKey}
-use Rattle.definition.specs.State.{State, Composite, composite, sameComposite, Valued, Got, takeId, enter, declareAlone, withConstants, listed, lookup}
+use Rattle.definition.specs.State.{State, Composite, sameComposite, Valued, Got, takeId, enter, declareAlone, withConstants, listed, lookup}
 use Rattle.definition.specs.Finding.{enterLiteral, enterComposite, enterNull}
 use Rattle.definition.specs.Rules.{valueAt, enterValue}
 use Rattle.literals.specs.Forms.{literalForm, bitsOf}
@@ -23,7 +23,7 @@ use Rattle.spirv.specs.Ids.{low}
 use Rattle.writer.specs.Rows.{part, soughtOf}
 use Rattle.writer.specs.Regions.{valuesAt, partsAt, sectionAt, Section, declarations, addTo}
 use Rattle.writer.specs.Cost.{Cost, anId, aType, aLiteral, aNull, aValue, aComposite, listingCost, declaring, sectionWords}
-use Rattle.writer.specs.Held.{kindCode, SmallKind, Held, RoomFor, Grown}
+use Rattle.writer.specs.Held.{kindCode, SmallKind, Held, RoomFor, Grown, SmallComposite, compositeKey, partsOfC}
 
 -- nothing is in use
 abbrev pub fresh : ℕ → ℕ → ℕ → Writer
@@ -78,8 +78,8 @@ FindsNull t w T r = (S : List ℕ) (s : State) → Held w T S s → soughtOf r �
 
 -- its parts are the n that stand behind those in use
 abbrev pub FindsComposite : ℕ → ℕ → Writer → List ℕ → Sought → Type 0
-FindsComposite key n w T r = (k : Key) → Small k → key ≡ packedKey k → (S : List ℕ) (s : State) → Held w T S s
-    → soughtOf r ≡ lookup sameComposite (composite k (part T (partsAt w + w .parts) n)) (s .constants .composites)
+FindsComposite key n w T r = (c : Composite) → SmallComposite c → key ≡ compositeKey c → part T (partsAt w + w .parts) n ≡ partsOfC c → (S : List ℕ) (s : State) → Held w T S s
+    → soughtOf r ≡ lookup sameComposite c (s .constants .composites)
 
 -- ---- entries; each operation has only the list that it writes, and what is held stays held whatever the other is
 
@@ -110,8 +110,8 @@ noteComposite c id s = withConstants (enterComposite c id (s .constants)) s
 -- the n parts that stand behind those in use are its parts
 pub record EnteredComposite (key n id : ℕ) (w : Writer) (T : List ℕ) (v : Writer) (T′ : List ℕ) : Type 0 where
   pub grown : Grown (aComposite n) w v
-  pub held : (k : Key) → Small k → key ≡ packedKey k → (xs : List ℕ) → part T (partsAt w + w .parts) n ≡ xs
-      → (S : List ℕ) (s : State) → Held w T S s → Held v T′ S (noteComposite (composite k xs) id s)
+  pub held : (c : Composite) → SmallComposite c → key ≡ compositeKey c → part T (partsAt w + w .parts) n ≡ partsOfC c
+      → (S : List ℕ) (s : State) → Held w T S s → Held v T′ S (noteComposite c id s)
 
 pub record EnteredValue (id type kind : ℕ) (w : Writer) (T : List ℕ) (v : Writer) (T′ : List ℕ) : Type 0 where
   pub grown : Grown aValue w v

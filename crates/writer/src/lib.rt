@@ -4,6 +4,7 @@
 pub mod sections;
 
 use crate::sections::constant_composite;
+use crate::sections::type_function;
 use spirv::IdGenerator;
 use spirv::low_word;
 ghost use mathlib.Core.Path.{_≡_};
@@ -11,7 +12,7 @@ ghost use mathlib.Core.List.{List, [], _∷_};
 ghost use Prim.Native.Nat.{ℕ, _+_, _*_, _≤_, _<_};
 ghost use lib.ListN.{length};
 ghost use Rattle.definition.specs.State.{empty};
-ghost use Rattle.definition.specs.Instructions.{constantComposite, name, memberName};
+ghost use Rattle.definition.specs.Instructions.{constantComposite, typeFunction, name, memberName};
 ghost use Rattle.spirv.specs.Sections.{splice};
 ghost use Rattle.lookup.specs.Local.{asList};
 ghost use Rattle.writer.specs.Rows.{pair, triple, tableRows, seekIn, sameList, seekParts, soughtOf, part, isListed};
@@ -450,6 +451,15 @@ fn put_word(sections: &mut [u32], p: usize, x: u32)
     sections[p] = x;
 }
 
+// The n parts that stand behind those in use, lent.
+fn staged_parts(tables: &[u64], w: Writer, n: usize) -> &[u64]
+    requires { ⌜ RoomIn (staging n) w (now tables) ⌝ }
+    ensures { λ r. ⌜ (now r ≡ part (now (tables .entry)) (partsAt w + w .parts) n) × (length (now r) ≡ n) ⌝ }
+{
+    let start = PARTS * w.records + w.parts;
+    &tables[start..start + n]
+}
+
 // Declares the composite of the n parts that stand behind those in use.
 pub fn declare_composite(
     tables: &[u64],
@@ -462,8 +472,21 @@ pub fn declare_composite(
     requires { ⌜ (n < 65000) × RoomIn (staging n) w (now tables) × RoomFor (declaring (n + 3)) w (now sections) ⌝ }
     ensures { λ r. ⌜ Puts declarations (n + 3) (constantComposite ty id (part (now (tables .entry)) (partsAt w + w .parts) n)) w (now (sections .entry)) r (now (sections .exit)) ⌝ }
 {
-    let start = PARTS * w.records + w.parts;
-    constant_composite(sections, w, ty, id, &tables[start..start + n])
+    constant_composite(sections, w, ty, id, staged_parts(tables, w, n))
+}
+
+// Declares the function type of the n ids that stand there, the return type's first.
+pub fn declare_function(
+    tables: &[u64],
+    sections: &mut [u32],
+    w: Writer,
+    id: u64,
+    n: usize,
+) -> Writer
+    requires { ⌜ (n < 65000) × RoomIn (staging n) w (now tables) × RoomFor (declaring (n + 2)) w (now sections) ⌝ }
+    ensures { λ r. ⌜ Puts declarations (n + 2) (typeFunction id (part (now (tables .entry)) (partsAt w + w .parts) n)) w (now (sections .entry)) r (now (sections .exit)) ⌝ }
+{
+    type_function(sections, w, id, staged_parts(tables, w, n))
 }
 
 // A word of an instruction that is not whole yet, behind the declarations in use.

@@ -9,7 +9,7 @@ use spirv::low_word;
 ghost use mathlib.Core.List.{[], _∷_};
 ghost use Prim.Native.Nat.{_+_, _≤_, _<_};
 ghost use lib.ListN.{length};
-ghost use Rattle.definition.specs.Instructions.{decorate, memberDecorate, typeArray, typeRuntimeArray, typeStruct, typePointer, constantTrue, constantFalse, constantNull, constantOp, constantComposite, variable};
+ghost use Rattle.definition.specs.Instructions.{decorate, memberDecorate, typeVoid, typeArray, typeRuntimeArray, typeStruct, typePointer, typeFunction, constantTrue, constantFalse, constantNull, constantOp, constantComposite, variable};
 ghost use Rattle.spirv.specs.Ids.{low, initializerOf};
 ghost use Rattle.spirv.specs.Heads.{structHead};
 ghost use Rattle.writer.specs.Regions.{annotations, declarations};
@@ -55,6 +55,16 @@ pub fn member_decorate(
 }
 
 // ---- declarations
+
+pub fn type_void(sections: &mut [u32], mut w: Writer, id: u64) -> Writer
+    requires { ⌜ RoomFor (declaring 2) w (now sections) ⌝ }
+    ensures { λ r. ⌜ Puts declarations 2 (typeVoid id) w (now (sections .entry)) r (now (sections .exit)) ⌝ }
+{
+    let start = DECLARATIONS * w.bytes + w.declarations;
+    let n = instructions::type_void(&mut sections[start..], low_word(id));
+    w.declarations += n;
+    w
+}
 
 pub fn type_array(sections: &mut [u32], mut w: Writer, id: u64, element: u64, size: u64) -> Writer
     requires { ⌜ RoomFor (declaring 4) w (now sections) ⌝ }
@@ -110,6 +120,17 @@ pub fn type_pointer(sections: &mut [u32], mut w: Writer, id: u64, class: u32, ba
 {
     let start = DECLARATIONS * w.bytes + w.declarations;
     let n = instructions::type_pointer(&mut sections[start..], low_word(id), class, low_word(base));
+    w.declarations += n;
+    w
+}
+
+// The return type's id first, then the parameters'.
+pub fn type_function(sections: &mut [u32], mut w: Writer, id: u64, types: &[u64]) -> Writer
+    requires { ⌜ (length (now types) < 65000) × RoomFor (declaring (length (now types) + 2)) w (now sections) ⌝ }
+    ensures { λ r. ⌜ Puts declarations (length (now (types .entry)) + 2) (typeFunction id (now (types .entry))) w (now (sections .entry)) r (now (sections .exit)) ⌝ }
+{
+    let start = DECLARATIONS * w.bytes + w.declarations;
+    let n = instructions::type_function(&mut sections[start..], low_word(id), types);
     w.declarations += n;
     w
 }

@@ -27,9 +27,9 @@ use Rattle.writer.specs.Rows.{part}
 use Rattle.writer.specs.Regions.{partsAt}
 use Rattle.writer.specs.Cost.{Cost, anId, aValue, aComposite, declaring, _⊕_}
 use Rattle.writer.specs.Held.{kindCode, SmallKind, Held, Room, Grown}
+use Rattle.writer.specs.Staged.{Staged}
 use Rattle.writer.specs.Steps.{Gives, GotBy, FoundBy, EnteredValue, ValueAt}
 use Rattle.finding.specs.Costs.{costOf, literalCost, nullCost}
-use Rattle.writer_constants.specs.Staged.{Staged}
 use Rattle.writer_constants.specs.Entered.{compositeCost, expressionCost, TypeId, EnteredFound, SplatType, ConstantWritten}
 
 -- ---- kinds

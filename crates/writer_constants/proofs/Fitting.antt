@@ -23,7 +23,7 @@ use Rattle.writer.specs.Held.{kindCode, Held}
 use Rattle.writer.specs.Steps.{ValueAt}
 use Rattle.writer_constants.specs.Entered.{TypeId}
 use Rattle.writer_constants.specs.Fitting.{allOf, TestsEachPart, TestsParts}
-use Rattle.writer_constants.proofs.Staging.{u16s-length}
+use Rattle.fields.proofs.Numbers.{u16s-length}
 
 -- ---- parts of one type
 

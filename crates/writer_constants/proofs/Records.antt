@@ -21,7 +21,7 @@ use Rattle.writer.specs.Held.{Room}
 use Rattle.finding.proofs.Prices.{AtMost}
 use Rattle.writer_constants.specs.Entered.{expressionCost, FewParts, ConstantWritten}
 use Rattle.writer_constants.specs.Tested.{fieldsOf, ConstantTested}
-use Rattle.writer_constants.proofs.Staging.{u16s-length}
+use Rattle.fields.proofs.Numbers.{u16s-length}
 
 -- ---- by the tag
 

@@ -1,57 +1,27 @@
--- Parts put behind those in use, one by one. What is put there is `splice T (waiting w) ws` of the list before it: so nothing
--- in use is changed, and the parts are ws. A Splat's ws repeats one id; a Compose's ws are the ids that the table has, which
--- are those that the state has.
+-- Parts put behind those in use, one by one (`staged` of the writer has what follows from that). A Splat's parts repeat one id; a
+-- Compose's are the ids that the table has, which are those that the state has.
 use Prim.Native.Nat.{ℕ, zero, suc, _+_, _*_, _<_}
 use mathlib.Core.Path.{_≡_, refl, sym, ap, _∙_}
-use mathlib.Core.List.{List, [], _∷_, _++_, append-assoc}
+use mathlib.Core.List.{List, [], _∷_, _++_}
 use native.Mathlib.Omega.{arith}
 use native.Mathlib.Numerals.{add-one}
 use native.Mathlib.Decide.{decLt}
-use lib.ListN.{length, take, drop, replicate}
-use lib.Seq.{take-at, drop-at, length-take-le}
+use lib.ListN.{length, replicate}
 use borrow.Author.Tests.{lt-ltb, le-ltb}
 use Rattle.definition.specs.Bytes.{u16At}
+use Rattle.fields.proofs.Numbers.{u16s-length, u16s-snoc}
 use Rattle.definition.specs.Sheet.{u16sAt}
 use Rattle.definition.specs.State.{State}
 use Rattle.definition.specs.Rules.{idsOf, valueAt}
 use Rattle.spirv.specs.Sections.{splice}
 use Rattle.writer.specs.declared.Writer.{Writer}
-use Rattle.writer.specs.Rows.{pair, triple, part}
-use Rattle.writer.specs.Regions.{literalsAt, nullsAt, valuesAt, compositesAt, partsAt}
+use Rattle.writer.specs.Regions.{valuesAt}
 use Rattle.writer.specs.Cost.{staging}
-use Rattle.writer.specs.Held.{tablesOf, Held, RoomIn}
+use Rattle.writer.specs.Held.{Held, RoomIn}
 use Rattle.writer.specs.Steps.{idIn}
-use Rattle.writer.proofs.Regions.{left, rows-agree, part-left, splice-none, splice-splice}
+use Rattle.writer.proofs.Regions.{left, splice-none, splice-splice}
+use Rattle.writer.proofs.Staged.{waiting}
 use Rattle.writer.proofs.Values.{value-there, value-past}
-use Rattle.writer_constants.specs.Staged.{Staged}
-
--- where the parts wait
-abbrev pub waiting : Writer → ℕ
-waiting w = partsAt w + w .parts
-
--- what is put there changes nothing that is in use
-module _ (w : Writer) (T ws : List ℕ) (n : ℕ) (l : length ws ≡ n) (room : RoomIn (staging n) w T) where
-  tables-kept : tablesOf w (splice T (waiting w) ws) ≡ tablesOf w T
-  tables-kept = λ i. record {
-    types = rows-agree pair T (splice T (waiting w) ws) 0 (w .types) (left T (waiting w) ws (omega arith) 0 (2 * w .types) (omega arith)) i;
-    literals = rows-agree triple T (splice T (waiting w) ws) (literalsAt w) (w .literals) (left T (waiting w) ws (omega arith) (literalsAt w) (3 * w .literals) (omega arith)) i;
-    nulls = rows-agree pair T (splice T (waiting w) ws) (nullsAt w) (w .nulls) (left T (waiting w) ws (omega arith) (nullsAt w) (2 * w .nulls) (omega arith)) i;
-    values = rows-agree triple T (splice T (waiting w) ws) (valuesAt w) (w .values) (left T (waiting w) ws (omega arith) (valuesAt w) (3 * w .values) (omega arith)) i;
-    composites = rows-agree triple T (splice T (waiting w) ws) (compositesAt w) (w .composites) (left T (waiting w) ws (omega arith) (compositesAt w) (3 * w .composites) (omega arith)) i;
-    parts = part-left T (waiting w) ws (omega arith) (partsAt w) (w .parts) (omega arith) i;
-  }
-
-  pub staged : (ps : State → List ℕ) → ((S : List ℕ) (s : State) → Held w T S s → ws ≡ ps s) → (T′ : List ℕ) → T′ ≡ splice T (waiting w) ws → Staged n ps w T T′
-  staged ps e T′ et = rw et (record {
-    held = λ S s h. record { last = h .last; tables = tables-kept ∙ h .tables; small = h .small; sections = h .sections };
-    parts = λ S s h. there ∙ e S s h;
-  })
-    where
-      there : part (splice T (waiting w) ws) (waiting w) n ≡ ws
-      there =
-          let k : length (take (waiting w) T) ≡ waiting w = length-take-le (waiting w) T (omega arith) in
-          ap (λ (z : List ℕ). take n (drop (waiting w) z)) (append-assoc (take (waiting w) T) ws (drop (waiting w + length ws) T))
-          ∙ ap (take n) (drop-at (take (waiting w) T) (ws ++ drop (waiting w + length ws) T) (waiting w) k) ∙ take-at ws (drop (waiting w + length ws) T) n l
 
 -- ---- a Splat's parts
 
@@ -85,18 +55,6 @@ ids-snoc : (w : Writer) (T cs : List ℕ) (c : ℕ) → idsIn w T cs ++ idIn w T
 unfolding idsIn
 ids-snoc w T [] c = refl
 ids-snoc w T (x ∷ cs) c = ap (λ (l : List ℕ). idIn w T x ∷ l) (ids-snoc w T cs c)
-
-pub u16s-length : (b : List ℕ) (p n : ℕ) → length (u16sAt b p n) ≡ n
-unfolding u16sAt
-u16s-length b p zero = refl
-u16s-length b p (suc n) = ap suc (u16s-length b (p + 2) n)
-
-u16s-snoc : (b : List ℕ) (p n : ℕ) → u16sAt b p n ++ u16At b (p + 2 * n) ∷ [] ≡ u16sAt b p (suc n)
-unfolding u16sAt
-u16s-snoc b p zero = let e : p + 2 * 0 ≡ p = omega arith in ap (λ (j : ℕ). u16At b j ∷ []) e
-u16s-snoc b p (suc n) =
-    let e : p + 2 * suc n ≡ p + 2 + 2 * n = omega arith in
-    ap (λ (l : List ℕ). u16At b p ∷ l) (ap (λ (j : ℕ). u16sAt b (p + 2) n ++ u16At b j ∷ []) e ∙ u16s-snoc b (p + 2) n)
 
 pub parts-length : (w : Writer) (T b : List ℕ) (n : ℕ) → length (idsIn w T (u16sAt b 4 n)) ≡ n
 parts-length w T b n = ids-length w T (u16sAt b 4 n) ∙ u16s-length b 4 n

@@ -1,7 +1,7 @@
 -- The two ways out of finding a composite, each from what the callees leave: it is there already, or a new id is taken, its
 -- type is found, its instruction is put and it is entered. Finding the type leaves the parts that wait where they are.
 use Prim.Native.Nat.{ℕ, _+_}
-use mathlib.Core.Path.{_≡_, sym, ap, _∙_, subst}
+use mathlib.Core.Path.{_≡_, refl, sym, ap, _∙_, subst}
 use mathlib.Core.List.{List}
 use mathlib.Core.Option.{Option}
 use native.Mathlib.Omega.{arith}
@@ -31,7 +31,7 @@ module _ (k : Key) (sm : Small k) (key : ℕ) (ek : key ≡ packedKey k) (n : �
   composed : (o : Sought) → r ≡ o → (s : State) → Held w T S s
       → compositeOf k xs s ≡ orNewValue (soughtOf o) find k (λ t id. constantComposite t id xs) (enterComposite (composite k xs)) s
   unfolding compositeOf
-  composed o e s h = ap (λ (p : Option ℕ). orNewValue p find k (λ t id. constantComposite t id xs) (enterComposite (composite k xs)) s) (sym (er k sm ek S s h) ∙ ap soughtOf e)
+  composed o e s h = ap (λ (p : Option ℕ). orNewValue p find k (λ t id. constantComposite t id xs) (enterComposite (composite k xs)) s) (sym (er (composite k xs) sm ek refl S s h) ∙ ap soughtOf e)
 
   pub composite-old : (id : ℕ) → r ≡ Id id → FoundBy (compositeCost k n) (compositeOf k xs) w T S (taken id w) T S
   composite-old id e = record {
@@ -52,5 +52,5 @@ module _ (k : Key) (sm : Small k) (key : ℕ) (ek : key ≡ packedKey k) (n : �
       let d′ = subst (λ (y : List ℕ). Puts declarations (n + 3) (constantComposite (f .id) (m .id) y) (f .writer) S₁ v S₂) (ap (λ (j : ℕ). part T₁ j n) ef ∙ same) d in
       record {
         grown = omega (arith, p .grown, g .grown, d .grown, x .grown);
-        gives = gives-new (compositeOf k xs) k (λ t id. constantComposite t id xs) (enterComposite (composite k xs)) w T S (composed Absent e) m p f T₁ S₁ g (n + 3) v S₂ d′ u T₂ (x .held k sm ek xs there);
+        gives = gives-new (compositeOf k xs) k (λ t id. constantComposite t id xs) (enterComposite (composite k xs)) w T S (composed Absent e) m p f T₁ S₁ g (n + 3) v S₂ d′ u T₂ (x .held (composite k xs) sm ek there);
       }

@@ -1,4 +1,3 @@
-pub mod Staged
 pub mod Entered
 pub mod Fitting
 pub mod Tested

@@ -16,8 +16,8 @@ ghost use Rattle.writer.specs.Rows.{part};
 ghost use Rattle.writer.specs.Regions.{partsAt};
 ghost use Rattle.writer.specs.Cost.{staging};
 ghost use Rattle.writer.specs.Held.{RoomIn, Room};
+ghost use Rattle.writer.specs.Staged.{Staged};
 ghost use Rattle.writer.specs.Steps.{FoundBy};
-ghost use Rattle.writer_constants.specs.Staged.{Staged};
 ghost use Rattle.writer_constants.specs.Entered.{compositeCost};
 
 // The parts of a Compose: the ids of the n constants that its body names.

@@ -8,12 +8,15 @@ use crate::lines::{self, Line};
 use crate::reached::Reached;
 use crate::reference;
 use crate::second::{self, Refusal};
-use crate::sheet::{has_halves, HEADER, MAX_BOUND};
+use crate::sheet::{has_functions, has_halves, HEADER, MAX_BOUND};
 
 pub const SEED: u64 = 0x0907_0004_1943_0300;
 
 /// Of what paper 1 adds.
 const HALVES_SEED: u64 = 0x0900_0009_0016_0201;
+
+/// Of what paper 2 adds.
+const FUNCTIONS_SEED: u64 = 0x0900_0048_0033_0202;
 
 /// Of a run at scale, where no other is said.
 pub const SCALE_SEED: u64 = 0x0316_0040_9600_1719;
@@ -63,11 +66,12 @@ fn end_of_record(sheet: &[u8], index: usize) -> usize {
 }
 
 /// Every case of a run: the sweep, families, edges and `count` random ones of document
-/// 01's, then those of paper 1.
+/// 01's, then those of paper 1 and of paper 2.
 fn cases(count: usize) -> Vec<Case> {
     let mut cases = swept();
     cases.extend(unswept(count));
     cases.extend(halved(count));
+    cases.extend(with_functions(count));
     cases
 }
 
@@ -91,6 +95,14 @@ fn unswept(count: usize) -> Vec<Case> {
 fn halved(count: usize) -> Vec<Case> {
     let mut random = Random::new(HALVES_SEED, 1);
     let mut cases = generator::halves(&mut random);
+    cases.extend(drawn(&mut random, count));
+    cases
+}
+
+/// The families of function types, and random sheets that may have some.
+fn with_functions(count: usize) -> Vec<Case> {
+    let mut random = Random::new(FUNCTIONS_SEED, 2);
+    let mut cases = generator::functions(&mut random);
     cases.extend(drawn(&mut random, count));
     cases
 }
@@ -224,6 +236,8 @@ struct Tally {
     modules: usize,
     /// Modules of sheets with 16-bit floats, of whose words the Rust's lack one line.
     halves: usize,
+    /// Modules of sheets with function records.
+    functions: usize,
     words: usize,
     largest: usize,
     missing: usize,
@@ -239,6 +253,7 @@ impl Tally {
             sheets: 0,
             modules: 0,
             halves: 0,
+            functions: 0,
             words: 0,
             largest: 0,
             missing: 0,
@@ -254,6 +269,7 @@ impl Tally {
             Expected::Module { words, .. } => {
                 self.modules += 1;
                 self.halves += has_halves(&one.sheet) as usize;
+                self.functions += has_functions(&one.sheet) as usize;
                 self.words += words.len();
                 self.largest = self.largest.max(words.len());
                 self.reached.accepted(&one.sheet);
@@ -295,13 +311,14 @@ impl Tally {
     fn report(&self, seed: u64) -> bool {
         println!(
             "{} sheets from seed {seed:#018x}; held against the Rust: {} modules of {} words, the \
-             largest of {}, {} of them but for Float16, and {} missing capabilities; {} refused by \
-             the second reading's opinion alone; {} differences",
+             largest of {}, {} of them but for Float16 and {} with function records, and {} missing \
+             capabilities; {} refused by the second reading's opinion alone; {} differences",
             self.sheets,
             self.modules,
             self.words,
             self.largest,
             self.halves,
+            self.functions,
             self.missing,
             self.opinions,
             self.differences,
@@ -493,11 +510,24 @@ fn store(one: &Asked) {
     }
 }
 
-/// The stored sample, all of the comparison's domain: document 01's part, then that of
-/// paper 1, each of whose sheets has a 16-bit float.
+/// The latest paper that a sheet has something of: function records, or else 16-bit floats.
+fn paper_of(sheet: &[u8]) -> usize {
+    match (has_functions(sheet), has_halves(sheet)) {
+        (true, _) => 2,
+        (false, true) => 1,
+        (false, false) => 0,
+    }
+}
+
+/// The stored sample, all of the comparison's domain: document 01's part, then those of the
+/// papers, each of whose sheets has something of that paper and of none behind it.
 pub fn print_sample() -> bool {
     let mut faults = FAULTS.to_vec();
-    let parts = [(unswept(0).len(), unswept(6_000), 4), (halved(0).len(), halved(1_500), 1)];
+    let parts = [
+        (unswept(0).len(), unswept(6_000), 4),
+        (halved(0).len(), halved(1_500), 1),
+        (with_functions(0).len(), with_functions(1_500), 1),
+    ];
     for (paper, (families, mut cases, quarters)) in parts.into_iter().enumerate() {
         if paper > 0 {
             println!("# paper {paper}");
@@ -506,7 +536,7 @@ pub fn print_sample() -> bool {
         let (Some(mut families), Some(mut random)) = (asked(cases), asked(random)) else {
             return false;
         };
-        let stays = |one: &Asked| by_rust(one) && has_halves(&one.sheet) == (paper > 0);
+        let stays = |one: &Asked| by_rust(one) && paper_of(&one.sheet) == paper;
         families.retain(stays);
         random.retain(stays);
         print_part(&families, &random, quarters, &mut faults);

@@ -6,7 +6,7 @@ use std::collections::{BTreeMap, BTreeSet};
 
 /// For each tag, how many combinations its small fields have. Of a field with many
 /// values a few classes are told apart: see `combination`.
-const COMBINATIONS: [(u8, usize); 21] = [
+const COMBINATIONS: [(u8, usize); 22] = [
     (1, 2),
     (2, 1),
     (16, 12),
@@ -22,6 +22,7 @@ const COMBINATIONS: [(u8, usize); 21] = [
     (26, 1),
     (27, 1),
     (28, 2),
+    (48, 34),
     (64, 6),
     (65, 1),
     (66, 1),
@@ -48,6 +49,7 @@ fn combination(record: &Record) -> String {
             },
             all_small => format!("{all_small:?}"),
         },
+        Record::Function(f) => format!("{} {}", f.return_type == VOID, f.parameters.len()),
         Record::Constant(c) => match c {
             Constant::Literal(literal @ Literal::Bool(_)) => format!("{literal:?}"),
             Constant::Literal(Literal::F64(_)) => String::from("F64"),
@@ -120,9 +122,12 @@ impl Reached {
         for number in (1..=17).filter(|n| !self.refusals.contains_key(n)) {
             missing.push(format!("refusal {number} never"));
         }
-        let combinations: usize = COMBINATIONS.iter().map(|c| c.1).sum();
+        let (tags, combinations) =
+            (COMBINATIONS.len(), COMBINATIONS.iter().map(|c| c.1).sum::<usize>());
         match missing.is_empty() {
-            true => println!("reached: all 21 tags in all {combinations} combinations of values"),
+            true => {
+                println!("reached: all {tags} tags in all {combinations} combinations of values")
+            }
             false => println!("not reached: {}", missing.join("; ")),
         }
         missing.is_empty()

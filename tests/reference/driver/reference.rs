@@ -1,5 +1,5 @@
 //! Runs the published Rust on a sheet: decodes record by record into naga's IR
-//! and calls, for each, the function that document 01 names.
+//! and calls, for each, the function that document 01 or paper 2 names.
 
 use crate::sheet::{self, *};
 use naga::back::spv;
@@ -30,6 +30,8 @@ struct Reader {
 /// What a record was entered as.
 enum Entered {
     Type(Handle<naga::Type>),
+    /// Return type, none for void, and parameters: no part of naga's IR has these alone.
+    Function(Option<Handle<naga::Type>>, Vec<Handle<naga::Type>>),
     Constant(Handle<Expression>),
     Global(Handle<naga::GlobalVariable>),
 }
@@ -39,7 +41,7 @@ enum Entered {
 pub fn run(bytes: &[u8]) -> Answer {
     let mut options = options(bytes);
     let mut reader = Reader::new(constants_of(bytes));
-    // The options are known once the first type, constant or global comes.
+    // The options are known once the first record that writes something comes.
     let mut writer = None;
     // How many capabilities the Rust has used before the first type of 16-bit floats.
     let mut float16 = None;
@@ -169,7 +171,7 @@ fn constants_of(bytes: &[u8]) -> usize {
     let mut rest = &bytes[HEADER..];
     let mut count = 0;
     while let [high, low, tag, ..] = *rest {
-        count += (rank(tag) == Some(3)) as usize;
+        count += matches!(tag, 64..=68) as usize;
         rest = rest.get(2 + u16::from_be_bytes([high, low]) as usize..).unwrap_or(&[]);
     }
     count
@@ -323,6 +325,10 @@ impl Reader {
                 let ty = naga::Type { name: name(t.name), inner: self.inner(t.inner) };
                 Entered::Type(self.module.types.insert(ty, Span::default()))
             }
+            Record::Function(FunctionType { return_type, parameters }) => {
+                let returned = (return_type != VOID).then(|| self.ty(return_type));
+                Entered::Function(returned, parameters.into_iter().map(|p| self.ty(p)).collect())
+            }
             Record::Constant(c) => {
                 let resolution = self.resolution(&c);
                 self.info.set_constant(self.module.const_expressions.len(), resolution);
@@ -350,6 +356,8 @@ impl Reader {
                 assert_eq!(handle.index(), self.types.len(), "12 refuses a repeated type");
                 self.types.push(handle);
             }
+            // Nothing refers to one.
+            Entered::Function(..) => {}
             Entered::Constant(handle) => self.constants.push(handle),
             Entered::Global(handle) => self.globals.push(handle),
         }
@@ -368,10 +376,13 @@ impl Reader {
         }
     }
 
-    /// The function that document 01 names for a record.
+    /// The function that document 01, or paper 2 for a function record, names for a record.
     fn write(&self, writer: &mut spv::Writer, entered: &Entered) -> Result<u32, spv::Error> {
         match *entered {
             Entered::Type(handle) => writer.reference_type(&self.module, handle),
+            Entered::Function(returned, ref parameters) => {
+                Ok(writer.reference_function(returned, parameters))
+            }
             Entered::Constant(handle) => {
                 writer.reference_constant(&self.module, &self.info, handle)
             }

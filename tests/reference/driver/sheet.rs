@@ -1,4 +1,5 @@
-//! The sheet of document 01: which fields a tag has, and how they lie in bytes.
+//! The sheet of document 01 and of document 02's papers: which fields a tag has, and how
+//! they lie in bytes.
 //!
 //! This is the one table of the format. The generator encodes by it, the second
 //! reading and the reference's decoder decode by it. Values are not judged
@@ -7,12 +8,16 @@
 
 pub const MAX_SHEET: usize = 16_384;
 pub const MAX_TYPES: usize = 256;
+pub const MAX_FUNCTIONS: usize = 64;
+pub const MAX_PARAMETERS: usize = 16;
 pub const MAX_CONSTANTS: usize = 256;
 pub const MAX_GLOBALS: usize = 64;
 pub const MAX_REMAPS: usize = 64;
 pub const MAX_MEMBERS: usize = 64;
 pub const MAX_BOUND: u64 = 4_194_303;
 pub const NO_INIT: u16 = 65_535;
+/// As the return type of a function record.
+pub const VOID: u16 = 65_535;
 pub const HEADER: usize = 6;
 
 pub const DEBUG: u8 = 1;
@@ -123,11 +128,19 @@ pub struct Type {
     pub inner: Inner,
 }
 
+/// Of paper 2.
+#[derive(Clone, Debug, PartialEq, Eq)]
+pub struct FunctionType {
+    pub return_type: u16,
+    pub parameters: Vec<u16>,
+}
+
 #[derive(Clone, Debug, PartialEq, Eq)]
 pub enum Record {
     Available(Vec<u32>),
     Remap { group: u32, binding: u32, size: u32 },
     Type(Type),
+    Function(FunctionType),
     Constant(Constant),
     Global(Global),
 }
@@ -160,6 +173,7 @@ impl Record {
                 Inner::RayQuery => 27,
                 Inner::BindingArray { .. } => 28,
             },
+            Record::Function(_) => 48,
             Record::Constant(c) => match c {
                 Constant::Literal(_) => 64,
                 Constant::Alias(_) => 65,
@@ -186,22 +200,28 @@ impl Inner {
     }
 }
 
+/// Tags and bodies of any sheet, up to a record whose length is none.
+fn tags_and_bodies(sheet: &[u8]) -> impl Iterator<Item = (u8, &[u8])> {
+    let mut rest = sheet.get(HEADER..).unwrap_or(&[]);
+    std::iter::from_fn(move || {
+        let (&length, after) = rest.split_first_chunk::<2>()?;
+        let (record, after) = after.split_at_checked(u16::from_be_bytes(length) as usize)?;
+        rest = after;
+        record.split_first().map(|(&tag, body)| (tag, body))
+    })
+}
+
 /// Whether a type of any sheet, up to a record that is none, declares a 16-bit float.
 pub fn has_halves(sheet: &[u8]) -> bool {
-    let mut rest = sheet.get(HEADER..).unwrap_or(&[]);
-    while let Some((&length, after)) = rest.split_first_chunk::<2>() {
-        let Some((record, after)) = after.split_at_checked(u16::from_be_bytes(length) as usize)
-        else {
-            return false;
-        };
-        let Some((&tag, body)) = record.split_first() else { return false };
-        match rank(tag).map(|_| decode(tag, body)) {
-            Some(Ok(Record::Type(t))) if t.inner.is_half() => return true,
-            Some(Ok(_)) => rest = after,
-            _ => return false,
-        }
-    }
-    false
+    let sound = |(tag, body)| rank(tag).and_then(|_| decode(tag, body).ok());
+    tags_and_bodies(sheet)
+        .map_while(sound)
+        .any(|record| matches!(record, Record::Type(t) if t.inner.is_half()))
+}
+
+/// Whether any sheet, up to a record whose length is none, has a function record, sound or not.
+pub fn has_functions(sheet: &[u8]) -> bool {
+    tags_and_bodies(sheet).any(|(tag, _)| tag == 48)
 }
 
 /// The rank of a tag, or none for an unknown one.
@@ -210,8 +230,9 @@ pub fn rank(tag: u8) -> Option<u8> {
         1 => Some(0),
         2 => Some(1),
         16..=28 => Some(2),
-        64..=68 => Some(3),
-        96 => Some(4),
+        48 => Some(3),
+        64..=68 => Some(4),
+        96 => Some(5),
         _ => None,
     }
 }
@@ -294,6 +315,12 @@ impl Record {
                     &Inner::BindingArray { base, size } => {
                         out.half(base).word(size);
                     }
+                }
+            }
+            Record::Function(FunctionType { return_type, parameters }) => {
+                out.half(*return_type).byte(parameters.len() as u8);
+                for &parameter in parameters {
+                    out.half(parameter);
                 }
             }
             Record::Constant(constant) => match constant {
@@ -414,6 +441,12 @@ pub fn decode(tag: u8, body: &[u8]) -> Result<Record, Misfit> {
         }
         2 => Record::Remap { group: s.word()?, binding: s.word()?, size: s.word()? },
         16..=28 => Record::Type(Type { name: s.name()?, inner: decode_inner(tag, &mut s)? }),
+        48 => {
+            let return_type = s.half()?;
+            let count = s.byte()?;
+            let parameters = (0..count).map(|_| s.half()).collect::<Result<_, _>>()?;
+            Record::Function(FunctionType { return_type, parameters })
+        }
         64..=68 => Record::Constant(decode_constant(tag, &mut s)?),
         96 => Record::Global(Global {
             name: s.name()?,

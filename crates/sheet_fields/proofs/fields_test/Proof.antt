@@ -30,24 +30,30 @@ returns-3 c =
 
 returns-4 : tie.Need-returns-4
 unfolding fieldsTest entryOf
-returns-4 c = simp (← c .before .before .rank-of .ensures, c .before .match .keys4) (c .constant-test .ensures)
+returns-4 c =
+    let f = no-form (c .before .before .before .before .args .tag) (c .before .before .before .before .args .body .now) (λ z. omega (arith, z, c .before .before .rank-of .ensures, c .before .match .keys4)) in
+    simp (← c .before .before .rank-of .ensures, c .before .match .keys4, f) (c .function-test .ensures)
 
 returns-5 : tie.Need-returns-5
 unfolding fieldsTest entryOf
-returns-5 c =
-    let f = no-form (c .before .before .before .before .args .tag) (c .before .before .before .before .args .body .now) (λ z. omega (arith, z, c .before .before .rank-of .ensures, c .before .match .keys5)) in
-    simp (← c .before .before .rank-of .ensures, c .before .match .keys5, f) (c .global-test .ensures)
+returns-5 c = simp (← c .before .before .rank-of .ensures, c .before .match .keys5) (c .constant-test .ensures)
 
 returns-6 : tie.Need-returns-6
 unfolding fieldsTest entryOf
 returns-6 c =
+    let f = no-form (c .before .before .before .before .args .tag) (c .before .before .before .before .args .body .now) (λ z. omega (arith, z, c .before .before .rank-of .ensures, c .before .match .keys6)) in
+    simp (← c .before .before .rank-of .ensures, c .before .match .keys6, f) (c .global-test .ensures)
+
+returns-7 : tie.Need-returns-7
+unfolding fieldsTest entryOf
+returns-7 c =
     let n = c .before .match .rest in
     let f = no-form (c .before .before .before .before .args .tag) (c .before .before .before .before .args .body .now) (λ z. n .0 .1 (c .before .before .rank-of .ensures ∙ z)) in
-    simp (← c .before .before .rank-of .ensures, ne-eqb _ _ (n .0 .0 .0 .0 .1), ne-eqb _ _ (n .0 .0 .0 .1), ne-eqb _ _ (n .0 .0 .1), ne-eqb _ _ (n .0 .1), f) (c .global-test2 .ensures)
+    simp (← c .before .before .rank-of .ensures, ne-eqb _ _ (n .0 .0 .0 .0 .0 .1), ne-eqb _ _ (n .0 .0 .0 .0 .1), ne-eqb _ _ (n .0 .0 .0 .1), ne-eqb _ _ (n .0 .0 .1), ne-eqb _ _ (n .0 .1), f) (c .global-test2 .ensures)
 
 pub fields-test-spec : {M : Type 1} → statement M
 fields-test-spec =
     tie.close
     (tie.spec (λ c κs. search needs) (λ c κs. search needs) (λ c κs. search needs) (λ c κs. search needs)
-    (λ c κs. search needs) (λ c κs. search needs) (λ c κs. search needs) returns returns-2 returns-3 returns-4 returns-5
-    returns-6)
+    (λ c κs. search needs) (λ c κs. search needs) (λ c κs. search needs) (λ c κs. search needs) returns returns-2 returns-3
+    returns-4 returns-5 returns-6 returns-7)

@@ -12,8 +12,13 @@ pub fn damaged_as(random: &mut Random, number: u8) -> Case {
     loop {
         // Not every sheet can be damaged in every way.
         if let Some(sheet) = damage(random, number) {
-            // A Float of width 2 is damage without paper 1, and let in by it.
-            let let_in = number == 10 && random.papers == 0 && has_halves(&sheet);
+            // A Float of width 2 is damage without paper 1 and let in by it, and so is tag 48
+            // without paper 2.
+            let let_in = match number {
+                5 => random.papers < 2 && has_functions(&sheet),
+                10 => random.papers < 1 && has_halves(&sheet),
+                _ => false,
+            };
             let expect = if let_in { Expect::Unknown } else { Expect::Refused(number) };
             return Case { sheet, expect };
         }
@@ -75,27 +80,33 @@ fn damage(random: &mut Random, number: u8) -> Option<Vec<u8>> {
         }
         5 => {
             let mut encoded = encode(&records);
-            encoded.insert(at, vec![byte_outside(random, &TAGS), 0, 0]);
+            let tags = tags(random.papers);
+            encoded.insert(at, vec![byte_outside(random, &tags), 0, 0]);
             return Some(joined(head, &encoded));
         }
         6 => {
-            // The first record of a rank goes behind one of a higher rank.
-            let ranks: Vec<u8> = records.iter().map(|r| rank(r.tag()).unwrap()).collect();
-            let from = (0..records.len()).find(|&i| ranks[i] < ranks[records.len() - 1])?;
-            let low = records[from].clone();
-            records.push(low);
+            // A record goes behind one of a higher rank; document 01's is the first of the
+            // lowest, paper 2's any, so that function records do too.
+            let last = rank(records.last()?.tag());
+            let mut lower = records.clone();
+            lower.retain(|r| rank(r.tag()) < last);
+            let first = lower.first()?.clone();
+            records.push(if random.papers < 2 { first } else { random.pick(&lower) });
             if random.chance(1, 4) {
                 records.insert(0, Record::Available(vec![1]));
                 records.insert(1, Record::Available(vec![]));
             }
         }
         7 => {
-            let fill: fn(usize) -> Record = match random.below(2) {
+            let kinds = if random.papers < 2 { 2 } else { 3 };
+            let fill: fn(usize) -> Record = match random.below(kinds) {
                 0 => |n| Record::Remap { group: 7, binding: n as u32, size: 1 },
-                _ => |n| Record::Constant(Constant::Literal(Literal::F32(n as u32))),
+                1 => |n| Record::Constant(Constant::Literal(Literal::F32(n as u32))),
+                _ => |_| function(VOID, &[]),
             };
             let most = match fill(0) {
                 Record::Remap { .. } => MAX_REMAPS,
+                Record::Function(_) => MAX_FUNCTIONS,
                 _ => MAX_CONSTANTS,
             };
             let mut encoded: Vec<_> = (0..=most).map(|n| fill(n).encode()).collect();
@@ -230,6 +241,10 @@ fn spoil_value(random: &mut Random, record: &mut Record) -> Option<()> {
                 MAX_MEMBERS + 1 + random.pick(&[0, random.state as usize % (255 - MAX_MEMBERS)]);
             members.resize(count, member(0, 0));
         }
+        Record::Function(f) => {
+            let past = random.state as usize % (255 - MAX_PARAMETERS);
+            f.parameters.resize(MAX_PARAMETERS + 1 + random.pick(&[0, past]), 0);
+        }
         Record::Global(g) if g.bound == 0 && random.chance(1, 2) => {
             let one = (1 + random.below(255) as u32) << (8 * random.below(4));
             match random.below(2) {
@@ -271,6 +286,13 @@ fn spoil_reference(
                 members[which].ty = ty;
             }
             _ => return None,
+        },
+        Record::Function(f) => match f.parameters.len() {
+            0 => f.return_type = ty,
+            count => match random.below(count + 1) {
+                0 => f.return_type = ty,
+                which => f.parameters[which - 1] = random.pick(&[ty, VOID]),
+            },
         },
         Record::Constant(c) => match c {
             Constant::Literal(_) => return None,

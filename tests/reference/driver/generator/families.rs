@@ -87,6 +87,11 @@ pub(super) fn structure(members: &[u16]) -> Inner {
     Inner::Struct { span: 64, members }
 }
 
+/// A function record.
+pub(super) fn function(return_type: u16, parameters: &[u16]) -> Record {
+    Record::Function(FunctionType { return_type, parameters: parameters.to_vec() })
+}
+
 /// Types that a global can have, each with the entries below it; the last one is
 /// meant. One for each way in which rules tell types apart; floats have this width.
 pub(super) fn global_types(width: u8) -> Vec<Vec<Inner>> {

@@ -4,6 +4,7 @@
 mod damage;
 mod edges;
 mod families;
+mod functions;
 mod halves;
 mod sweep;
 mod valid;
@@ -14,6 +15,7 @@ pub use damage::{changed, damaged, damaged_as, DAMAGES};
 pub use edges::edges;
 pub use families::families;
 use families::*;
+pub use functions::functions;
 pub use halves::halves;
 pub use sweep::sweep;
 use valid::*;
@@ -44,7 +46,7 @@ fn domain(sheet: &Sheet) -> Case {
 }
 
 /// How many of document 02's papers there are by now.
-pub const PAPERS: u8 = 1;
+pub const PAPERS: u8 = 2;
 
 /// The generator splitmix64. Beside its state it knows up to which paper of document 02
 /// values and records are drawn, 0 for document 01 alone: what was stored before a paper

@@ -1,5 +1,5 @@
 //! The sweep: short sheets in which one small field after the other takes every value
-//! around its limits. What it may hold comes from document 01's lists (values.rs); the
+//! around its limits. What it may hold comes from the documents' lists (values.rs); the
 //! second reading has no part in what is expected.
 
 use super::values::*;
@@ -115,6 +115,7 @@ pub fn sweep() -> Vec<(String, Vec<Case>)> {
     constants(&mut s);
     globals(&mut s);
     references(&mut s);
+    functions(&mut s);
     s.groups.retain(|(_, cases)| !cases.is_empty());
     s.groups
 }
@@ -147,11 +148,11 @@ fn header_bytes(s: &mut Sweep) {
 
 fn tags_and_lengths(s: &mut Sweep) {
     s.group("tag of a record without a body".into());
-    for tag in (0..=255u8).filter(|&t| {
-        TAGS.iter().any(|&known| t.abs_diff(known) <= 3) || FAR.contains(&t) || t == 48
-    }) {
+    let tags = tags(PAPERS);
+    let near = |&t: &u8| tags.iter().any(|&known| t.abs_diff(known) <= 3) || FAR.contains(&t);
+    for tag in (0..=255u8).filter(near) {
         // Available alone needs none.
-        let expect = if TAGS.contains(&tag) { unless(tag == 1, 8) } else { Expect::Refused(5) };
+        let expect = if tags.contains(&tag) { unless(tag == 1, 8) } else { Expect::Refused(5) };
         s.raw(&[], tag, &[], expect);
     }
     s.group("length of a record of 4 bytes".into());
@@ -398,5 +399,91 @@ fn references(s: &mut Sweep) {
     for init in halves(2) {
         let own = Record::Global(Global { init, ..global(0, PRIVATE, 0) });
         s.sheet(&[&all[..], &[own]].concat(), unless(init < 2 || init == 65_535, 11));
+    }
+}
+
+/// Paper 2. Two types are there, a float and a vector of two.
+fn functions(s: &mut Sweep) {
+    let vector = unnamed(Inner::Vector { size: 2, kind: FLOAT, width: 4 });
+    let types = [float(), vector];
+    let behind = |record: Record| [&types[..], &[record]].concat();
+    let body = |record: Record| record.encode()[1..].to_vec();
+    s.group("bytes of a function record".into());
+    for bytes in 0..=9 {
+        s.raw(&types, 48, &vec![0; bytes], unless(bytes == 3, 8));
+    }
+    s.group("one byte too few and one too many, of a function record".into());
+    for parameters in [1, MAX_PARAMETERS, MAX_PARAMETERS + 1] {
+        let whole = body(function(VOID, &vec![1; parameters]));
+        s.raw(&types, 48, &whole[..whole.len() - 1], Expect::Refused(8));
+        s.raw(&types, 48, &[&whole[..], &[0]].concat(), Expect::Refused(8));
+    }
+    s.group("count of parameters that are there".into());
+    for count in (0..=20).chain([31, 32, 33, 63, 64, 65, 127, 128, 254, 255]) {
+        for return_type in [VOID, 1] {
+            let record = function(return_type, &vec![0; count]);
+            s.sheet(&behind(record), unless(count <= MAX_PARAMETERS, 10));
+        }
+    }
+    // 8 before 10.
+    s.group("count of parameters where one is there, and where 17 are".into());
+    for there in [1, MAX_PARAMETERS + 1] {
+        for count in (0..=3).chain(14..=20).chain(FAR) {
+            let mut body = body(function(0, &vec![1; there]));
+            body[2] = count;
+            let sound = count as usize == there;
+            let number = if sound { 10 } else { 8 };
+            s.raw(&types, 48, &body, unless(sound && there <= MAX_PARAMETERS, number));
+        }
+    }
+    s.group("return type of a function record; 65,535 is void".into());
+    for index in halves(2) {
+        s.sheet(&behind(function(index, &[1])), unless(index < 2 || index == 65_535, 11));
+    }
+    let places: [(&str, fn(u16) -> Vec<u16>); 3] = [
+        ("only parameter", |index| vec![index]),
+        ("first of two parameters", |index| vec![index, 1]),
+        ("last of 16 parameters", |index| [&[0; 15][..], &[index]].concat()),
+    ];
+    for (what, make) in places {
+        s.group(format!("{what}; 65,535 is none"));
+        for index in halves(2) {
+            s.sheet(&behind(function(VOID, &make(index))), unless(index < 2, 11));
+        }
+    }
+    // 10 before 11.
+    s.group("17 parameters, and one of the types was not read".into());
+    for index in [1, 2, 65_534, 65_535] {
+        let parameters = [&[0; 16][..], &[index]].concat();
+        s.sheet(&behind(function(VOID, &parameters)), Expect::Refused(10));
+        s.sheet(&behind(function(index, &[0; 17])), Expect::Refused(10));
+    }
+    ranks_of_functions(s, &types);
+}
+
+/// A function record before and behind one of each rank: "its rank lies between types and
+/// constants".
+fn ranks_of_functions(s: &mut Sweep, types: &[Record]) {
+    let function = function(VOID, &[]);
+    let of_each_rank = [
+        ("Available", Record::Available(Vec::new())),
+        ("a remap", Record::Remap { group: 0, binding: 0, size: 1 }),
+        ("a type", unnamed(Inner::Scalar { kind: UINT, width: 4 })),
+        ("a function record", function.clone()),
+        ("a constant", literal(1)),
+        ("a global", Record::Global(global(0, UNIFORM, 0))),
+    ];
+    for (rank, (what, other)) in of_each_rank.into_iter().enumerate() {
+        // What has a lower rank than types stands in front of them.
+        let before = |record: &Record| match record {
+            Record::Available(_) | Record::Remap { .. } => Vec::new(),
+            _ => types.to_vec(),
+        };
+        s.group(format!("{what} before a function record, and behind one"));
+        s.sheet(
+            &[before(&other), vec![other.clone(), function.clone()]].concat(),
+            unless(rank <= 3, 6),
+        );
+        s.sheet(&[before(&other), vec![function.clone(), other]].concat(), unless(rank >= 3, 6));
     }
 }

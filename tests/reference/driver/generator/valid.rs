@@ -54,6 +54,7 @@ struct Builder<'a> {
     bytes: usize,
     types: Vec<Type>,
     zeroable: Vec<bool>,
+    functions: Vec<FunctionType>,
     constants: Vec<(Constant, Key)>,
     /// Bindings worth using again.
     bindings: Vec<(u32, u32)>,
@@ -63,6 +64,7 @@ struct Builder<'a> {
 #[derive(Clone, Copy)]
 pub struct Aim {
     pub types: usize,
+    pub functions: usize,
     pub constants: usize,
     pub globals: usize,
 }
@@ -231,6 +233,61 @@ impl Builder<'_> {
             Inner::Matrix { columns, rows, width } => Key::Matrix(columns, rows, width),
             _ => Key::Entry(index),
         }
+    }
+
+    fn add_function(&mut self) {
+        let made = match self.functions.is_empty() || self.random.chance(1, 2) {
+            true => self.new_function(),
+            false => self.like_a_function(),
+        };
+        if self.functions.len() < MAX_FUNCTIONS && self.add(Record::Function(made.clone())) {
+            self.functions.push(made);
+        }
+    }
+
+    fn returned(&mut self) -> u16 {
+        match self.random.below(3) {
+            0 => VOID,
+            _ => self.some_type().unwrap_or(VOID),
+        }
+    }
+
+    fn new_function(&mut self) -> FunctionType {
+        let return_type = self.returned();
+        let count = match self.random.below(8) {
+            0 => MAX_PARAMETERS - self.random.below(2),
+            1 => self.random.below(MAX_PARAMETERS + 1),
+            _ => self.random.below(4),
+        };
+        FunctionType {
+            return_type,
+            parameters: (0..count).map_while(|_| self.some_type()).collect(),
+        }
+    }
+
+    /// An earlier function type, the same by entries or by ids, or with a thing changed.
+    fn like_a_function(&mut self) -> FunctionType {
+        let mut like = self.random.pick(&self.functions);
+        match (self.random.below(6), like.parameters.len().checked_sub(1)) {
+            (0, _) => {}
+            (1, _) => like.return_type = self.returned(),
+            (2, Some(last)) => like.parameters[last] = self.some_type().expect("there is one"),
+            (3, Some(last)) => like.parameters.swap(0, last),
+            (4, Some(last)) => like.parameters.truncate(last),
+            _ => {
+                let FunctionType { return_type, parameters } = &mut like;
+                let types = parameters.iter_mut().chain([return_type]);
+                types.filter(|ty| **ty != VOID).for_each(|ty| *ty = self.of_one_id(*ty));
+            }
+        }
+        like
+    }
+
+    /// This type or another entry that has its id.
+    fn of_one_id(&mut self, ty: u16) -> u16 {
+        let key = self.key(ty);
+        let same: Vec<u16> = (0..self.types.len() as u16).filter(|&t| self.key(t) == key).collect();
+        self.random.pick(&same)
     }
 
     fn literal(&mut self) -> Literal {
@@ -429,6 +486,7 @@ pub fn valid(random: &mut Random, aim: Aim) -> Sheet {
         bytes: HEADER,
         types: Vec::new(),
         zeroable: Vec::new(),
+        functions: Vec::new(),
         constants: Vec::new(),
         bindings: Vec::new(),
     };
@@ -438,6 +496,9 @@ pub fn valid(random: &mut Random, aim: Aim) -> Sheet {
     }
     for _ in 1..aim.types {
         b.add_type();
+    }
+    for _ in 0..aim.functions {
+        b.add_function();
     }
     for _ in 0..aim.constants {
         b.add_constant();
@@ -450,15 +511,17 @@ pub fn valid(random: &mut Random, aim: Aim) -> Sheet {
 
 /// Mostly small sheets, some as full as they may be.
 pub fn aim(random: &mut Random) -> Aim {
-    let (types, constants, globals) = match random.below(100) {
-        0 => (MAX_TYPES, MAX_CONSTANTS, MAX_GLOBALS),
-        1..=9 => (40, 30, 16),
-        10..=39 => (12, 12, 8),
-        _ => (6, 5, 4),
+    let (types, functions, constants, globals) = match random.below(100) {
+        0 => (MAX_TYPES, MAX_FUNCTIONS, MAX_CONSTANTS, MAX_GLOBALS),
+        1..=9 => (40, 24, 30, 16),
+        10..=39 => (12, 8, 12, 8),
+        _ => (6, 5, 5, 4),
     };
     Aim {
         types: random.below(types + 1),
         constants: random.below(constants + 1),
         globals: random.below(globals + 1),
+        // The last draw, which sheets before paper 2 do not have.
+        functions: if random.papers < 2 { 0 } else { random.below(functions + 1) },
     }
 }

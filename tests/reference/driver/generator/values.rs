@@ -1,11 +1,20 @@
-//! The values of document 01's small fields, as its lists have them: written out
+//! The values of the small fields, as the documents' lists have them: written out
 //! apart from the second reading's tests, so that a slip in either shows.
 
 use super::*;
 
-/// Every tag there is.
-pub(super) const TAGS: [u8; 21] =
+/// Every tag of document 01.
+const TAGS: [u8; 21] =
     [1, 2, 16, 17, 18, 19, 20, 21, 22, 23, 24, 25, 26, 27, 28, 64, 65, 66, 67, 68, 96];
+
+/// The same with those of papers; paper 2: "a record with tag 48".
+pub(super) fn tags(papers: u8) -> Vec<u8> {
+    let mut all = TAGS.to_vec();
+    if papers >= 2 {
+        all.push(48);
+    }
+    all
+}
 
 /// "Widths in bytes: integers 1, 2, 4, 8; Float and matrices 4, 8; Bool 1." Paper 1:
 /// "Float and matrix width 2 become allowed values in types".

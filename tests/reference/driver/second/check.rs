@@ -16,19 +16,22 @@ impl Second {
         }
         let (bytes, after) = rest.split_at(length);
         let (tag, body) = (bytes[0], &bytes[1..]);
-        let Some(rank) = rank(tag) else { return refusal(5) };
+        let Some(rank) = self.rank_of(tag, last_rank) else { return refusal(5) };
         let again = tag == 1 && self.available.is_some() && !self.has(Fault::AvailableTwice);
         if rank < last_rank || again {
             return refusal(6);
         }
-        let full = match rank {
-            0 => false,
-            1 => self.remaps.len() == MAX_REMAPS,
-            2 => self.types.len() == MAX_TYPES,
-            3 => self.constants.len() == MAX_CONSTANTS,
+        let full = match tag {
+            1 => false,
+            2 => self.remaps.len() == MAX_REMAPS,
+            16..=28 => self.types.len() == MAX_TYPES,
+            48 => self.functions_full(),
+            64..=68 => self.constants.len() == MAX_CONSTANTS,
             _ => self.globals.len() == MAX_GLOBALS,
         };
-        if full && !(self.has(Fault::CountAfterBody) && decode(tag, body).is_err()) {
+        let late =
+            self.has(Fault::CountAfterBody) || tag == 48 && self.has(Fault::FunctionCountAfterBody);
+        if full && !(late && decode(tag, body).is_err()) {
             return refusal(7);
         }
         let record = match decode(tag, body) {
@@ -39,6 +42,10 @@ impl Second {
                 Record::Constant(Constant::Literal(Literal::F32(0)))
             }
             Err(Misfit::LiteralForm) if !self.has(Fault::FormAsLength) => return refusal(10),
+            Err(_) if tag == 48 && self.has(Fault::ParametersBeforeLength) => {
+                let over = body.get(2).is_some_and(|&count| count as usize > MAX_PARAMETERS);
+                return refusal(if over { 10 } else { 8 });
+            }
             Err(_) => return refusal(8),
         };
         if self.has(Fault::ValuesBeforeNames) && !self.values_fit(&record) {
@@ -47,11 +54,14 @@ impl Second {
         if !self.names_of(&record).into_iter().all(|name| self.name_fits(name)) {
             return refusal(9);
         }
-        if self.has(Fault::ReferencesBeforeValues) && !self.references_fit(&record) {
+        let early = self.has(Fault::ReferencesBeforeValues)
+            || tag == 48 && self.has(Fault::FunctionReferencesBeforeCount);
+        if early && !self.references_fit(&record) {
             return refusal(11);
         }
         if !self.values_fit(&record) {
-            return refusal(10);
+            let as_length = tag == 48 && self.has(Fault::ParametersAsLength);
+            return refusal(if as_length { 8 } else { 10 });
         }
         if !self.references_fit(&record) {
             return refusal(11);
@@ -97,6 +107,7 @@ impl Second {
                 Inner::Struct { members, .. } => members.iter().all(|m| ty(m.ty)),
                 _ => true,
             },
+            Record::Function(f) => self.function_references_fit(f),
             Record::Constant(c) => match c {
                 Constant::Literal(_) => true,
                 &Constant::Alias(of) => constant(of),
@@ -122,6 +133,7 @@ impl Second {
             Record::Remap { group, binding, size } => self.remaps.iter().any(|(g, b, s)| {
                 g == group && b == binding && (s == size || !self.has(Fault::RemapsRepeatBySize))
             }),
+            Record::Function(f) => self.is_repeated_function(f),
             _ => false,
         }
     }
@@ -150,6 +162,7 @@ impl Second {
             Record::Available(_) => true,
             &Record::Remap { size, .. } => size != 0,
             Record::Type(t) => self.inner_fits(&t.inner),
+            Record::Function(f) => self.count_fits(f),
             Record::Constant(c) => match c {
                 Constant::Literal(Literal::Bool(value)) => *value <= 1,
                 Constant::Splat { size, .. } => size_fits(*size),
@@ -294,6 +307,7 @@ impl Second {
 
     fn fits(&self, record: &Record) -> bool {
         match record {
+            Record::Function(f) => self.function_fits(f),
             Record::Constant(Constant::Zero(ty)) => self.zeroable(*ty),
             Record::Constant(Constant::Compose { ty, parts }) => {
                 let given = parts.iter().map(|&p| self.constants[p as usize].type_id);

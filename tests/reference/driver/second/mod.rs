@@ -1,13 +1,14 @@
-//! A second reading of document 01: Check, Declare and Wrapped, written from its
-//! text and the SPIR-V Specification, not from the Rust that it names. The
-//! comparison runs it against that Rust. It knows no hash map and keeps every
-//! instruction as data until the end.
+//! A second reading of document 01 and of document 02's papers: Check, Declare and
+//! Wrapped, written from their text and the SPIR-V Specification, not from the Rust that
+//! they name. The comparison runs it against that Rust. It knows no hash map and keeps
+//! every instruction as data until the end.
 //!
 //! `Fault` lists slips that can be planted one at a time; the run has to report
 //! each, or it would prove nothing by staying silent.
 
 mod check;
 mod constants;
+mod functions;
 mod globals;
 mod numbers;
 mod types;
@@ -116,12 +117,14 @@ pub struct Second {
     remaps: Vec<(u32, u32, u32)>,
     types: Vec<Type>,
     zeroables: Vec<bool>,
+    functions: Vec<functions::Function>,
     globals: Vec<Global>,
     // What was given out. Ids are held in 64 bits: start may lie near 2^32, and
     // 15 is only tested after all records.
     last: u64,
     entries: Vec<u64>,
     shapes: Vec<(Shape, u64)>,
+    void: Option<u64>,
     constants: Vec<Known>,
     constant_keys: Vec<(ConstantKey, u64)>,
     capabilities: Vec<u32>,
@@ -149,10 +152,12 @@ pub fn check(sheet: &[u8], fault: Option<Fault>) -> Result<Second, Refusal> {
         remaps: Vec::new(),
         types: Vec::new(),
         zeroables: Vec::new(),
+        functions: Vec::new(),
         globals: Vec::new(),
         last: start as u64,
         entries: Vec::new(),
         shapes: Vec::new(),
+        void: None,
         constants: Vec::new(),
         constant_keys: Vec::new(),
         capabilities: Vec::new(),
@@ -162,6 +167,9 @@ pub fn check(sheet: &[u8], fault: Option<Fault>) -> Result<Second, Refusal> {
     };
     if s.has(Fault::LimitBeforeRecords) && s.bound() > MAX_BOUND {
         return refusal(15);
+    }
+    if s.has(Fault::VoidBeforeTypes) && has_functions(sheet) {
+        s.find_void();
     }
     let mut rest = &sheet[HEADER..];
     let mut rank = 0;
@@ -222,6 +230,7 @@ impl Second {
                 self.types.push(t.clone());
                 return self.ask(&t.inner);
             }
+            Record::Function(f) => self.write_function(f),
             Record::Constant(c) => self.write_constant(c),
             Record::Global(g) => {
                 self.write_global(&g);

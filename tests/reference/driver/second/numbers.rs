@@ -6,6 +6,7 @@ pub mod op {
     pub const NAME: u16 = 5;
     pub const MEMBER_NAME: u16 = 6;
     pub const CAPABILITY: u16 = 17;
+    pub const TYPE_VOID: u16 = 19;
     pub const TYPE_BOOL: u16 = 20;
     pub const TYPE_INT: u16 = 21;
     pub const TYPE_FLOAT: u16 = 22;
@@ -17,6 +18,7 @@ pub mod op {
     pub const TYPE_RUNTIME_ARRAY: u16 = 29;
     pub const TYPE_STRUCT: u16 = 30;
     pub const TYPE_POINTER: u16 = 32;
+    pub const TYPE_FUNCTION: u16 = 33;
     pub const CONSTANT_TRUE: u16 = 41;
     pub const CONSTANT_FALSE: u16 = 42;
     pub const CONSTANT: u16 = 43;
@@ -42,6 +44,7 @@ pub mod decoration {
 }
 
 pub mod capability {
+    pub const LINKAGE: u32 = 5; // only for a fault
     pub const FLOAT16: u32 = 9;
     pub const FLOAT64: u32 = 10;
     pub const INT64: u32 = 11;

@@ -5,14 +5,14 @@ use Rattle.sheet.specs.Holding.{addCounts}
 use Rattle.sheet.proofs.holding.added.Statement.{statement}
 use Rattle.sheet.proofs.holding.added.Tie as tie
 
-returns-6 : tie.Need-returns-6
+returns-7 : tie.Need-returns-7
 unfolding addCounts
-returns-6 c = simp (ne-eqb _ _ (c .match .rest .0 .0 .0 .0 .1), ne-eqb _ _ (c .match .rest .0 .0 .0 .1), ne-eqb _ _ (c .match .rest .0 .0 .1), ne-eqb _ _ (c .match .rest .0 .1), ne-eqb _ _ (c .match .rest .1))
+returns-7 c = simp (ne-eqb _ _ (c .match .rest .0 .0 .0 .0 .0 .1), ne-eqb _ _ (c .match .rest .0 .0 .0 .0 .1), ne-eqb _ _ (c .match .rest .0 .0 .0 .1), ne-eqb _ _ (c .match .rest .0 .0 .1), ne-eqb _ _ (c .match .rest .0 .1), ne-eqb _ _ (c .match .rest .1))
 
 pub added-spec : {M : Type 1} → statement M
 unfolding addCounts
 added-spec =
     tie.close
-    (tie.spec (λ c. search needs) (λ c. search needs) (λ c. search needs) (λ c. search needs) (λ c. simp (c .match .keys1))
+    (tie.spec (λ c. search needs) (λ c. search needs) (λ c. search needs) (λ c. search needs) (λ c. search needs) (λ c. simp (c .match .keys1))
     (λ c. simp (c .before .match .keys2)) (λ c. simp (c .before .match .keys3)) (λ c. simp (c .before .match .keys4))
-    (λ c. simp (c .before .match .keys5)) returns-6)
+    (λ c. simp (c .before .match .keys5)) (λ c. simp (c .before .match .keys6)) returns-7)

@@ -1,5 +1,5 @@
 -- Only a remap and a type can be repeated.
-use mathlib.Core.Path.{sym, _∙_}
+use mathlib.Core.Path.{refl, sym, _∙_}
 use borrow.Author.Tests.{ne-eqb}
 use borrow.Author.Needs.{needs}
 use Rattle.definition.specs.Sheet.{entryOf}
@@ -23,13 +23,18 @@ returns-3 c = λ n l. simp (← c .before .before .rank-of .ensures, c .before .
 
 returns-4 : tie.Need-returns-4
 unfolding entryOf
-returns-4 c = λ n l. simp (← c .before .rank-of .ensures, c .match .keys4)
+returns-4 c = λ n l. simp (← c .before .rank-of .ensures, c .match .keys4) refl
 
 returns-5 : tie.Need-returns-5
 unfolding entryOf
-returns-5 c = λ n l. simp (← c .before .rank-of .ensures, ne-eqb _ _ (c .match .rest .0 .0 .0 .1), ne-eqb _ _ (c .match .rest .0 .0 .1), ne-eqb _ _ (c .match .rest .0 .1), ne-eqb _ _ (c .match .rest .1))
+returns-5 c = λ n l. simp (← c .before .rank-of .ensures, c .match .keys5) refl
+
+returns-6 : tie.Need-returns-6
+unfolding entryOf
+returns-6 c = λ n l. simp (← c .before .rank-of .ensures, ne-eqb _ _ (c .match .rest .0 .0 .0 .0 .1), ne-eqb _ _ (c .match .rest .0 .0 .0 .1), ne-eqb _ _ (c .match .rest .0 .0 .1), ne-eqb _ _ (c .match .rest .0 .1), ne-eqb _ _ (c .match .rest .1))
 
 pub is-repeated-spec : {M : Type 1} → statement M
 is-repeated-spec =
     tie.close
-    (tie.spec (λ c κs. search needs) (λ c κs. search needs) type-read-requires returns returns-2 returns-3 returns-4 returns-5)
+    (tie.spec (λ c κs. search needs) (λ c κs. search needs) type-read-requires returns returns-2 returns-3 returns-4 returns-5
+    returns-6)

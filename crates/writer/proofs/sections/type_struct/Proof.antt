@@ -1,7 +1,9 @@
 -- The ids are taken as words, and the words go behind the declarations in use.
 use Rattle.writer.specs.Regions.{declarations}
-use Rattle.writer.proofs.Spelt.{put-few, put-one, struct-of}
+use Rattle.writer.proofs.Spelt.{put-few, put-one, type-of}
 use native.Mathlib.Omega.{arith}
+use lib.Dec.{lit<}
+use Rattle.definition.specs.Numbers.{OpTypeStruct}
 use borrow.Author.Needs.{needs}
 use Rattle.writer.proofs.sections.type_struct.Statement.{statement}
 use Rattle.writer.proofs.sections.type_struct.Tie as tie
@@ -9,13 +11,13 @@ use Rattle.writer.proofs.sections.type_struct.Tie as tie
 add-w : tie.Need-add-w
 add-w c =
     let a = c .before .before .before .before .before .before .before .before .before .before .args in
-    let k = struct-of (a .id) (a .members .now) (c .before .before .before .before .low-word .ensures) (c .before .before .before .before .before .before .before .before .before .before .pre .0) in
+    let k = type-of OpTypeStruct (lit< tt) (a .id) (a .members .now) (c .before .before .before .before .low-word .ensures) (c .before .before .before .before .before .before .before .before .before .before .pre .0) in
     omega (arith, c .before .before .before .before .before .before .before .before .before .before .good, c .before .before .before .before .before .before .before .before .before .before .pre .1, put-few declarations k (c .before .before .before .before .before .before .before .before .before .before .pre .1) (c .before .before .before .type-struct .ensures))
 
 returns : tie.Need-returns
 returns c =
     let a = c .before .before .before .before .before .before .before .before .before .before .args in
-    let k = struct-of (a .id) (a .members .now) (c .before .before .before .before .low-word .ensures) (c .before .before .before .before .before .before .before .before .before .before .pre .0) in
+    let k = type-of OpTypeStruct (lit< tt) (a .id) (a .members .now) (c .before .before .before .before .low-word .ensures) (c .before .before .before .before .before .before .before .before .before .before .pre .0) in
     put-one declarations k (c .before .before .before .before .before .before .before .before .before .before .pre .1) (c .before .before .before .type-struct .ensures)
 
 pub type-struct-spec : {M : Type 1} → statement M

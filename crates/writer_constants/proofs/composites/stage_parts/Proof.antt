@@ -11,7 +11,8 @@ use Rattle.definition.specs.Rules.{idsOf}
 use Rattle.spirv.specs.Sections.{splice}
 use Rattle.writer.proofs.Regions.{splice-length}
 use Rattle.writer.specs.Steps.{idIn}
-use Rattle.writer_constants.proofs.Staging.{waiting, staged, idsIn, ids-held, parts-length, parts-none, parts-more}
+use Rattle.writer.proofs.Staged.{waiting, staged}
+use Rattle.writer_constants.proofs.Staging.{idsIn, ids-held, parts-length, parts-none, parts-more}
 use Rattle.writer_constants.proofs.composites.stage_parts.Statement.{statement}
 use Rattle.writer_constants.proofs.composites.stage_parts.Tie as tie
 

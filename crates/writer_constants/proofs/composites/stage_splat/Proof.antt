@@ -7,7 +7,8 @@ use lib.ListN.{length, replicate}
 use borrow.Author.Needs.{needs}
 use Rattle.spirv.specs.Sections.{splice}
 use Rattle.writer.proofs.Regions.{splice-length, splice-none}
-use Rattle.writer_constants.proofs.Staging.{waiting, staged, same-length as count, splat-more}
+use Rattle.writer.proofs.Staged.{waiting, staged}
+use Rattle.writer_constants.proofs.Staging.{same-length as count, splat-more}
 use Rattle.writer_constants.proofs.composites.stage_splat.Statement.{statement}
 use Rattle.writer_constants.proofs.composites.stage_splat.Tie as tie
 

@@ -17,7 +17,7 @@ use Rattle.finding.proofs.Ways.{taken}
 use Rattle.finding.proofs.Entries.{entry-got}
 use Rattle.writer_constants.specs.Entered.{expressionCost, FewParts}
 use Rattle.writer_constants.proofs.Entering.{splat-room, value-entered, alias-entered, zero-entered, compose-entered, splat-entered}
-use Rattle.writer_constants.proofs.Staging.{u16s-length}
+use Rattle.fields.proofs.Numbers.{u16s-length}
 use Rattle.writer_constants.proofs.expressions.write_constant_expr.Statement.{statement}
 use Rattle.writer_constants.proofs.expressions.write_constant_expr.Tie as tie
 
