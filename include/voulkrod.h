@@ -1,4 +1,5 @@
-/* Voulkrod for C: a sheet's types, constants and globals declared in SPIR-V.
+/* Voulkrod for C: a sheet's types, constants and globals declared in SPIR-V, and a
+ * module's words listed.
  *
  * `rt staticlib exports`, run at the root of the repository, proves the code and writes
  * target/staticlib/libexports.a, for programs on x86-64 Linux to link. It needs memset
@@ -12,6 +13,7 @@
  *   words    points to `words_length` words that nothing else reads or writes during the
  *            call. It is not null and is aligned to 4 bytes, even where words_length is
  *            0, and no word of it lies among the bytes of the sheet.
+ *   list     as words, and no word of it lies among the words that are listed.
  *   stack    VOULKROD_STACK bytes are enough. Measured were 18 KB for sheets of up to 128
  *            bytes, 53 KB for up to 512, 119 KB for up to 1,280, 263 KB for up to 4,096 and
  *            0.71 MB for longer ones. On less, a call ends at the stack's guard page.
@@ -21,8 +23,9 @@
  * too. They always return, and the same arguments give the same answer.
  *
  * What is said below of answers and words is proved of the number returned, of every sheet
- * and every buffer (`CheckExported`, `DeclareExported` and `WrappedExported` in
- * crates/exports/specs/Numbers.antt), but for the longest module that was seen.
+ * and every buffer (`CheckExported`, `DeclareExported`, `WrappedExported` and
+ * `ListExported` in crates/exports/specs/Numbers.antt; how long a list may be: `StaysShort`
+ * in crates/definition/specs/Listing.antt), but for the longest module that was seen.
  */
 #ifndef VOULKROD_H
 #define VOULKROD_H
@@ -60,6 +63,7 @@ extern "C" {
 #define VOULKROD_FIT 0
 #define VOULKROD_NOT_WRAPPED 256
 #define VOULKROD_WRAPPED 257
+#define VOULKROD_LISTED 256
 
 /* Check: VOULKROD_FIT, or the number of the refusal, 1 to 15. */
 uint32_t voulkrod_check(const uint8_t *sheet, size_t length);
@@ -77,6 +81,22 @@ uint64_t voulkrod_declare(const uint8_t *sheet, size_t length, uint32_t *words, 
  * may be asked for.
  */
 uint32_t voulkrod_wrapped(const uint8_t *sheet, size_t length, size_t index);
+
+/* List, of any words: first the five words of the header; then for each instruction its
+ * opcode, its result id (0 if none), the count of its other words, and those words, all
+ * but the first one and the result id. Where the words are listed, the answer is
+ * VOULKROD_LISTED and the list's length together; the words past the list keep their
+ * values. A list has fewer than twice as many words as it was made of. Else the answer is
+ * the number of the refusal, below VOULKROD_LISTED, and no word is changed:
+ *   18  fewer than five words, or the first, second or fifth is not a module's
+ *   and then of each instruction, the first that is refused deciding:
+ *   19  its word count is 0 or passes the end of the words
+ *   20  it is none that Declare writes, or not with so many words
+ *   and last:
+ *   16  the list is longer than the words that are lent for it
+ * Here `words` are only read, and nothing writes to them during the call.
+ */
+uint64_t voulkrod_list(const uint32_t *words, size_t words_length, uint32_t *list, size_t list_length);
 
 #ifdef __cplusplus
 }

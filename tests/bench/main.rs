@@ -2,6 +2,8 @@
 //! decodes a sheet into naga's IR and writes it without a check: the same sheets in
 //! the same process and run, in turn, the least of many repetitions.
 //!
+//! Beside them, the list of a module against Declare of its sheet, in turn too.
+//!
 //! Declare is lent one buffer of 65,536 words, which is not cleared between calls.
 //! The Rust grows vectors of its own at each call and frees them, as it is written.
 
@@ -18,10 +20,12 @@ mod voulkrod;
 
 use std::hint::black_box;
 use std::time::Instant;
-use voulkrod::declare;
+use voulkrod::{declare, list};
 
 /// Required: the compiled code's time over the Rust's, on the first three sheets.
 const RATIO: f64 = 0.6;
+/// Required: the list's time over Declare's, for one module.
+const LIST_RATIO: f64 = 1.0;
 /// Aimed at, not required.
 const AIM: f64 = 0.4;
 /// Required: microseconds on any sheet, on a machine where the Rust takes `USUAL` on the
@@ -97,6 +101,24 @@ fn measure(what: &str, sheet: &[u8], words: &mut [u32]) -> Measured {
     Measured { compiled: best[0], rust: best[1], writer: best[2] }
 }
 
+/// Microseconds of a module's list and of Declare for its sheet, and the list's length.
+fn measure_list(what: &str, sheet: &[u8], words: &mut [u32]) -> (f64, f64, usize) {
+    let count = count(sheet, words);
+    let module = words[..count].to_vec();
+    let mut buffer = vec![0; 2 * count];
+    let answer = list(&module, &mut buffer);
+    assert!(answer > 256, "the list answers {answer}: {what}");
+    let best = least(&mut [
+        &mut || {
+            black_box(list(black_box(&module), &mut buffer));
+        },
+        &mut || {
+            black_box(declare(black_box(sheet), words));
+        },
+    ]);
+    (best[0], best[1], answer as usize - 256)
+}
+
 fn heading() {
     println!(
         "{:>7} {:>7} {:>10} {:>10} {:>7} {:>10}",
@@ -152,6 +174,18 @@ fn main() {
         most = MOST * (m.rust / USUAL).max(1.0);
     }
 
+    println!("\nlists of modules, against Declare of their sheets");
+    println!("{:>7} {:>7} {:>10} {:>10} {:>7}", "words", "list", "listed", "Declare", "ratio");
+    let mut list_ratios = Vec::new();
+    let largest = [("the largest module", sheets::largest())];
+    for (what, sheet) in three.iter().chain(&largest) {
+        let (listed, declared, length) = measure_list(what, sheet, words);
+        let count = count(sheet, words);
+        let ratio = listed / declared;
+        println!("{count:7} {length:7} {listed:10.2} {declared:10.2} {ratio:7.2}   {what}");
+        list_ratios.push((ratio, *what));
+    }
+
     println!("\ngrowth: one mix");
     heading();
     for part in [1, 2, 3, 4, 8, 16] {
@@ -193,6 +227,11 @@ fn main() {
         let line =
             format!("ratio {ratio:.2}, at most {RATIO:.1} ({AIM:.1} aimed at: {aim}): {what}");
         good &= verdict(*ratio <= RATIO, &line);
+    }
+    for (ratio, what) in &list_ratios {
+        let line =
+            format!("the list's ratio {ratio:.2} to Declare, at most {LIST_RATIO:.1}: {what}");
+        good &= verdict(*ratio <= LIST_RATIO, &line);
     }
     let line = format!("the longest {:.0} us, under {most:.0}: {}", slowest.0, slowest.1);
     good &= verdict(slowest.0 < most, &line);

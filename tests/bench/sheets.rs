@@ -78,6 +78,23 @@ pub fn p3() -> Vec<u8> {
     Sheet { start: 0, flags: 0, records }.encode()
 }
 
+/// The sheet with the largest module: structs whose members are matrices, each with an empty name.
+pub fn largest() -> Vec<u8> {
+    let mut records = vec![unnamed(Inner::Matrix { columns: 2, rows: 2, width: 4 })];
+    for span in 0.. {
+        let bytes: usize = records.iter().map(|r| r.encode().len() + 2).sum();
+        let left = MAX_SHEET - HEADER - bytes;
+        // A struct takes 10 bytes, a member 7.
+        if left < 10 {
+            break;
+        }
+        let member = Member { ty: 0, offset: 0, name: Some(Vec::new()) };
+        let members = vec![member; MAX_MEMBERS.min((left - 10) / 7)];
+        records.push(named(String::new(), Inner::Struct { span, members }));
+    }
+    sheet(records)
+}
+
 fn mix_type(n: usize, name: &dyn Fn(&str, usize) -> String) -> Record {
     let kind = [FLOAT, UINT, SINT][n % 3];
     let size = 2 + (n / 3 % 3) as u8;

@@ -62,6 +62,14 @@ impl Fenced {
         unsafe { std::slice::from_raw_parts(place, bytes.len()) }
     }
 
+    /// The same with words.
+    pub fn hold_words(&mut self, words: &[u32], front: bool) -> &'static [u32] {
+        let bytes: Vec<u8> = words.iter().flat_map(|word| word.to_ne_bytes()).collect();
+        let held = self.hold(&bytes, front);
+        // SAFETY: the pages start and end at a multiple of 4, and so do whole words at a fence.
+        unsafe { std::slice::from_raw_parts(held.as_ptr().cast::<u32>(), words.len()) }
+    }
+
     /// The last words, up to the fence.
     pub fn last_words(&mut self, count: usize) -> &mut [u32] {
         let all = self.bytes / 4;

@@ -103,6 +103,46 @@ static void declare_writes(const char *what, const struct sheet *sheet, size_t r
     hold("words changed past the count", changed_from(due->count), 0);
 }
 
+/* ---- lists */
+
+/* P3's list: a header, and each instruction as its opcode, its result id, the count of its other words and those */
+static const uint32_t p3_list[] = {
+    0x07230203, 0x00010300, 28, 6, 0,
+    71, 0, 3, 3, 6, 16,
+    22, 2, 1, 32,
+    23, 1, 2, 2, 3,
+    21, 5, 2, 32, 0,
+    43, 4, 2, 5, 4,
+    28, 3, 2, 1, 4,
+};
+
+static void list_refuses(const char *what, const uint32_t *words, size_t count, size_t room, uint64_t due) {
+    paint();
+    hold(what, voulkrod_list(words, count, buffer, room), due);
+    hold("words changed by a list that is refused", changed_from(0), 0);
+}
+
+/* A module in buffers that are longer than its list, as long, one word short and empty. */
+static void list_of(const char *name, const struct answer *module) {
+    paint();
+    uint64_t seen = voulkrod_list(module->words, module->count, buffer, ROOM);
+    size_t length = seen < 256 ? 0 : (size_t)(seen - 256);
+    hold(name, length >= module->count, 1);
+    hold("words changed past a list", changed_from(length), 0);
+    if (!strcmp(name, "p03")) {
+        hold("the length of P3's list", length, sizeof p3_list / sizeof *p3_list);
+        hold("P3's list", memcmp(buffer, p3_list, sizeof p3_list) == 0, 1);
+    }
+    paint();
+    hold(name, voulkrod_list(module->words, module->count, buffer, length), seen);
+    hold("words changed past a list", changed_from(length), 0);
+    list_refuses(name, module->words, module->count, length - 1, 16);
+    list_refuses(name, module->words, module->count, 0, 16);
+    list_refuses("a list of four words", module->words, 4, ROOM, 18);
+    list_refuses("a list of no words", module->words, 0, ROOM, 18);
+    if (module->count > 5) list_refuses("a list of a cut module", module->words, module->count - 1, ROOM, 19);
+}
+
 static void sample(const char *folder, const char *name) {
     static struct sheet sheet;
     static struct answer due;
@@ -124,6 +164,7 @@ static void sample(const char *folder, const char *name) {
     declare_writes(name, &sheet, due.count + 1, &due);
     declare_refuses(name, &sheet, due.count - 1, 16);
     declare_refuses(name, &sheet, 0, 16);
+    list_of(name, &due);
     /* P11 alone has a global: an empty struct, and a float, which is wrapped */
     unsigned first = !strcmp(name, "p11a") ? VOULKROD_NOT_WRAPPED : !strcmp(name, "p11b") ? VOULKROD_WRAPPED : 17;
     hold(name, voulkrod_wrapped(sheet.bytes, sheet.length, 0), first);
@@ -171,7 +212,12 @@ struct call {
     char *from; /* where the caller's frame is */
 };
 
-static const char *const operations[] = {"Check", "Declare", "Wrapped"};
+enum { OPERATIONS = 4 };
+static const char *const operations[OPERATIONS] = {"Check", "Declare", "Wrapped", "the list"};
+
+/* the sheet's module, to be listed; no words where the sheet is refused */
+static struct answer module;
+static uint32_t list[2 * ROOM];
 
 static void *on_thread(void *argument) {
     struct call *call = argument;
@@ -181,7 +227,8 @@ static void *on_thread(void *argument) {
     switch (call->operation) {
         case 0: voulkrod_check(sheet->bytes, sheet->length); break;
         case 1: voulkrod_declare(sheet->bytes, sheet->length, buffer, ROOM); break;
-        default: voulkrod_wrapped(sheet->bytes, sheet->length, 0);
+        case 2: voulkrod_wrapped(sheet->bytes, sheet->length, 0); break;
+        default: voulkrod_list(module.words, module.count, list, 2 * ROOM);
     }
     return NULL;
 }
@@ -213,13 +260,15 @@ static void measure(int count, char **paths) {
     static struct sheet sheet;
     char *pages = mmap(NULL, PAGE + STACK, PROT_READ | PROT_WRITE, MAP_PRIVATE | MAP_ANONYMOUS, -1, 0);
     if (pages == MAP_FAILED || mprotect(pages, PAGE, PROT_NONE)) give_up("stack", "no memory for it");
-    size_t most[CLASSES][3] = {{0}}, files[CLASSES] = {0};
+    size_t most[CLASSES][OPERATIONS] = {{0}}, files[CLASSES] = {0};
     for (int i = 0; i < count; i++) {
         read_sheet(paths[i], &sheet);
         int class = 0;
         while (class + 1 < CLASSES && sheet.length > class_ends[class]) class++;
         files[class]++;
-        for (int operation = 0; operation < 3; operation++) {
+        uint64_t declared = voulkrod_declare(sheet.bytes, sheet.length, module.words, ROOM);
+        module.count = declared >> 32 ? (uint32_t)declared : 0;
+        for (int operation = 0; operation < OPERATIONS; operation++) {
             struct call call = {&sheet, operation, NULL};
             size_t bytes = stack_of(pages + PAGE, &call);
             if (bytes > most[class][operation]) most[class][operation] = bytes;
@@ -230,10 +279,10 @@ static void measure(int count, char **paths) {
             }
         }
     }
-    printf("| sheets | of them | Check, bytes of stack | Declare | Wrapped |\n|---|---|---|---|---|\n");
+    printf("| sheets | of them | Check, bytes of stack | Declare | Wrapped | their modules' lists |\n|---|---|---|---|---|---|\n");
     for (int class = 0; class < CLASSES; class++) {
-        printf("| up to %zu bytes | %zu | %zu | %zu | %zu |\n", class_ends[class], files[class], most[class][0],
-               most[class][1], most[class][2]);
+        printf("| up to %zu bytes | %zu | %zu | %zu | %zu | %zu |\n", class_ends[class], files[class], most[class][0],
+               most[class][1], most[class][2], most[class][3]);
         if (!files[class]) give_up("stack", "there must be a sheet of each class");
     }
 }

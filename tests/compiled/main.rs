@@ -34,9 +34,30 @@ const FIT: u32 = 0;
 const NOT_WRAPPED: u32 = 256;
 const WRAPPED: u32 = 257;
 
+/// More words than the list of any module or line has.
+const LIST_ROOM: usize = 2 * ROOM;
+/// What a list's length is answered behind.
+const LISTED: u64 = 256;
+
 /// What is falsified, once, in what a call left behind.
-const FAULTS: [&str; 9] =
-    ["word", "count", "bound", "past", "outside", "refused-word", "number", "check", "wrapped"];
+const FAULTS: [&str; 16] = [
+    "word",
+    "count",
+    "bound",
+    "past",
+    "outside",
+    "refused-word",
+    "number",
+    "check",
+    "wrapped",
+    "list-word",
+    "list-length",
+    "list-past",
+    "list-outside",
+    "list-refused-word",
+    "list-number",
+    "list-of-module",
+];
 
 fn pattern(index: usize, salt: u32) -> u32 {
     (index as u32).wrapping_mul(0x9e37_79b9) ^ salt
@@ -45,7 +66,7 @@ fn pattern(index: usize, salt: u32) -> u32 {
 #[derive(Default)]
 struct Tally {
     fit: usize,
-    refused: [usize; 18],
+    refused: [usize; 21],
     calls: usize,
     words: usize,
     wrong: Vec<String>,
@@ -82,6 +103,8 @@ struct Replay<'a> {
     tally: Tally,
     sheets: Fenced,
     sheet: &'static [u8],
+    /// Words to list, where the line has these.
+    listed: &'static [u32],
     words: Fenced,
     salt: u32,
 }
@@ -125,6 +148,28 @@ fn wrapped_in(words: &[u32]) -> Vec<bool> {
     wrapped
 }
 
+/// The words of which a list of some instructions of Declare's is the list.
+fn joined(list: &[u32]) -> Vec<u32> {
+    // Names, capabilities and decorations have no result id; constants and variables have a
+    // result type before it, and types have not.
+    const WITHOUT: [u32; 5] = [5, 6, 17, 71, 72];
+    const TYPED: [u32; 6] = [41, 42, 43, 44, 46, 59];
+    let mut words = list[..5].to_vec();
+    let mut rest = &list[5..];
+    while let [opcode, result, count, behind @ ..] = rest {
+        let (others, after) = behind.split_at((*count as usize).min(behind.len()));
+        let mut body = others.to_vec();
+        if !WITHOUT.contains(opcode) {
+            body.insert((TYPED.contains(opcode) as usize).min(body.len()), *result);
+        }
+        words.push((body.len() as u32 + 1) << 16 | opcode);
+        words.extend(body);
+        rest = after;
+    }
+    words.extend(rest);
+    words
+}
+
 /// How many globals a sheet that fits has.
 fn globals_in(sheet: &[u8]) -> usize {
     let mut count = 0;
@@ -155,23 +200,31 @@ impl Replay<'_> {
         hold(&format!("Wrapped of {index}"), seen as u64, due as u64)
     }
 
-    /// Declare into so many words, which hold the pattern. Its number, and the words that are
-    /// not as the pattern any more: none before the buffer, and within it none from `keeps` on.
-    fn declare(&mut self, room: usize, keeps: impl Fn(u64) -> usize) -> Result<u64, String> {
+    /// A call that is lent so many words, which hold the pattern. Its number, and the words
+    /// that are not as the pattern any more: none before the buffer, and within it none from
+    /// `keeps` on, which is 0 for a refusal. The faults are those of words past what was
+    /// written, of a refused buffer, and before the buffer.
+    fn lent(
+        &mut self,
+        room: usize,
+        call: impl FnOnce(&mut [u32]) -> u64,
+        keeps: impl Fn(u64) -> usize,
+        [past, refused, outside]: [&str; 3],
+    ) -> Result<u64, String> {
         self.tally.calls += 1;
         let painted = self.words.last_words(MARGIN + room);
         for (index, word) in painted.iter_mut().enumerate() {
             *word = pattern(index, self.salt);
         }
-        let number = voulkrod::declare(self.sheet, &mut painted[MARGIN..]);
+        let number = call(&mut painted[MARGIN..]);
         let keeps = keeps(number).min(room);
-        if number >> 32 != 0 && keeps < room && self.fault.is("past") {
+        if keeps > 0 && keeps < room && self.fault.is(past) {
             painted[MARGIN + keeps] ^= 1;
         }
-        if number >> 32 == 0 && room > 0 && self.fault.is("refused-word") {
+        if keeps == 0 && room > 0 && self.fault.is(refused) {
             painted[MARGIN + room - 1] ^= 1;
         }
-        if self.fault.is("outside") {
+        if self.fault.is(outside) {
             painted[MARGIN - 1] ^= 1;
         }
         let changed = |index: &usize| painted[*index] != pattern(*index, self.salt);
@@ -182,6 +235,68 @@ impl Replay<'_> {
             return Err(format!("word {} of a buffer of {room} is changed", index - MARGIN));
         }
         Ok(number)
+    }
+
+    fn declare(&mut self, room: usize, keeps: impl Fn(u64) -> usize) -> Result<u64, String> {
+        let sheet = self.sheet;
+        let call = |words: &mut [u32]| voulkrod::declare(sheet, words);
+        self.lent(room, call, keeps, ["past", "refused-word", "outside"])
+    }
+
+    fn list(&mut self, words: &[u32], room: usize, keeps: usize) -> Result<u64, String> {
+        let call = |list: &mut [u32]| voulkrod::list(words, list);
+        self.lent(room, call, |_| keeps, ["list-past", "list-refused-word", "list-outside"])
+    }
+
+    /// The words have this list, whatever the buffer.
+    fn lists(&mut self, room: usize, due: &[u32]) -> Compared {
+        let words = self.listed;
+        for room in [room, due.len(), due.len() + 1, due.len() + 1_000] {
+            let mut seen = self.list(words, room, due.len())?;
+            if self.fault.is("list-length") {
+                seen ^= 1;
+            }
+            hold(&format!("the length in {room} words"), seen, LISTED + due.len() as u64)?;
+            let listed = &mut self.words.last_words(room)[..due.len()];
+            if self.fault.is("list-word") {
+                listed[due.len() - 1] ^= 1;
+            }
+            self.tally.words += due.len();
+            for (index, (seen, due)) in listed.iter().zip(due).enumerate() {
+                hold(&format!("word {index} of a list"), *seen as u64, *due as u64)?;
+            }
+        }
+        for room in [due.len() - 1, 0] {
+            self.list_refuses(room, 16)?;
+        }
+        Ok(())
+    }
+
+    fn list_refuses(&mut self, room: usize, due: u32) -> Compared {
+        let mut seen = self.list(self.listed, room, 0)?;
+        if self.fault.is("list-number") {
+            seen ^= 1;
+        }
+        hold(&format!("the list in {room} words"), seen, due as u64)
+    }
+
+    /// The words are listed, into more words than so many, and joined again the same.
+    fn lists_somehow(&mut self, words: &[u32], more_than: usize) -> Compared {
+        self.tally.calls += 1;
+        let room = 2 * words.len();
+        let list = &mut self.words.last_words(room)[..];
+        let seen = voulkrod::list(words, list);
+        let length = seen.saturating_sub(LISTED) as usize;
+        if seen < LISTED || length > room || length <= more_than {
+            return Err(format!("the list in {room} words is {seen:#x}"));
+        }
+        if self.fault.is("list-of-module") {
+            list[length - 1] ^= 1;
+        }
+        match joined(&list[..length]) == words {
+            true => Ok(()),
+            false => Err(String::from("joined again, a list is other words")),
+        }
     }
 
     fn declare_refuses(&mut self, room: usize, due: u32) -> Compared {
@@ -230,7 +345,7 @@ impl Replay<'_> {
         for index in [globals.len(), usize::MAX] {
             self.wrapped(index, 17)?;
         }
-        Ok(())
+        self.lists_somehow(words, 0)
     }
 
     /// The sheet fits, and has a module of more than so many words, whichever.
@@ -269,6 +384,21 @@ impl Replay<'_> {
             (Asks::Declare { room }, Answer::Refused(number)) if *number < 16 => {
                 self.refused(room, *number)
             }
+            (Asks::List { room }, Answer::Words(list)) => {
+                self.lists(room.unwrap_or(2 * self.listed.len()), list)?;
+                self.lists_somehow(self.listed, 0)
+            }
+            (Asks::List { room: Some(room) }, Answer::Refused(16)) => {
+                self.list_refuses(room, 16)?;
+                self.lists_somehow(self.listed, room)
+            }
+            (Asks::List { room }, Answer::Refused(number)) if *number > 17 => {
+                let long = 2 * self.listed.len() + 8;
+                for room in [room.unwrap_or(long), 0, 1, 5, long] {
+                    self.list_refuses(room, *number)?;
+                }
+                Ok(())
+            }
             (Asks::Wrapped { index }, Answer::Wrapped(yes)) => {
                 self.wrapped(index, if *yes { WRAPPED } else { NOT_WRAPPED })?;
                 self.fits_somehow(0)
@@ -294,7 +424,10 @@ impl Replay<'_> {
         }
         for (salt, front) in PATTERNS.into_iter().zip([false, true]) {
             self.salt = salt;
-            self.sheet = self.sheets.hold(&line.sheet, front);
+            match line.asks {
+                Asks::List { .. } => self.listed = self.sheets.hold_words(&line.words(), front),
+                _ => self.sheet = self.sheets.hold(&line.sheet, front),
+            }
             if let Err(what) = self.line(line) {
                 self.tally.wrong.push(format!("{}:{}: {what}", line.file, line.number));
                 return;
@@ -314,7 +447,8 @@ fn replay(lines: &[Line], fault: Option<&str>) -> bool {
             tally: Tally::default(),
             sheets: Fenced::new(longest),
             sheet: &[],
-            words: Fenced::new(4 * (MARGIN + ROOM)),
+            listed: &[],
+            words: Fenced::new(4 * (MARGIN + LIST_ROOM)),
             salt: 0,
         };
         lines.iter().skip(first).step_by(THREADS).for_each(|line| replay.replay(line));
@@ -337,8 +471,8 @@ fn replay(lines: &[Line], fault: Option<&str>) -> bool {
     if fault.name.is_some() && !fault.planted.into_inner() {
         println!("there was no place for the fault");
     }
-    println!("accepted: {}; refused with 1 to 17: {:?}", tally.fit, &tally.refused[1..]);
-    let unreached: Vec<_> = (1..=17).filter(|n| tally.refused[*n] == 0).collect();
+    println!("accepted: {}; refused with 1 to 20: {:?}", tally.fit, &tally.refused[1..]);
+    let unreached: Vec<_> = (1..=20).filter(|n| tally.refused[*n] == 0).collect();
     if !unreached.is_empty() {
         println!("no line is refused with {unreached:?}");
     }
@@ -407,7 +541,8 @@ fn times(lines: &[Line], folder: &str) -> bool {
         std::fs::write(&path, &sheet).unwrap_or_else(|e| panic!("{path}: {e}"));
     }
     let fits = |l: &&Line| matches!(l.answer, Answer::Words(_) | Answer::Refused(16));
-    let long: Vec<_> = lines.iter().filter(|l| l.sheet.len() > 16_000).filter(fits).collect();
+    let long = |l: &&Line| l.sheet.len() > 16_000 && !matches!(l.asks, Asks::List { .. });
+    let long: Vec<_> = lines.iter().filter(long).filter(fits).collect();
     let slowest = long.iter().map(|line| (line, times_of(&line.sheet, &mut words)));
     let by_declare = |(_, (times, _)): &(_, ([f64; 3], usize))| (times[1] * 1e9) as u64;
     if let Some((line, times)) = slowest.max_by_key(by_declare) {

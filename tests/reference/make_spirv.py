@@ -7,7 +7,8 @@ GRAMMAR_FOLDER holds spirv.core.grammar.json and extinst.glsl.std.450.grammar.js
 (Debian package spirv-headers). The published Rust names these enums through the
 crate `spirv`, which is generated from the same files; names follow that crate:
 the `Op` prefix is dropped, an enum in which a name starts with a digit gets its
-own name in front of all of them, and bits are in capitals.
+own name in front of all of them, and bits are in capitals. One thing more is written, which
+that crate has not and the driver wants: which opcodes have a result type and a result id.
 """
 
 import json
@@ -41,6 +42,22 @@ def value_enum(kind, rows):
     return out
 
 
+def results(instructions):
+    """A function that says of an opcode whether it has a result type, and whether it has a result id."""
+    rows = {}
+    for i in instructions:
+        kinds = [operand["kind"] for operand in i.get("operands", [])]
+        typed, declares = "IdResultType" in kinds, "IdResult" in kinds
+        if declares:
+            # The words that the driver takes them from.
+            assert kinds.index("IdResult") == typed
+            rows.setdefault((typed, declares), {})[i["opcode"]] = None
+    out = ["pub const fn results_of(opcode: u32) -> (bool, bool) {", "    match opcode {"]
+    for (typed, declares), opcodes in rows.items():
+        out += [f"        {' | '.join(map(str, opcodes))} => ({typed}, {declares}),".replace("True", "true").replace("False", "false")]
+    return out + ["        _ => (false, false),", "    }", "}"]
+
+
 def bit_enum(kind, rows):
     def capitals(name):
         name = re.sub(r"([a-z0-9])([A-Z])", r"\1_\2", name)
@@ -62,6 +79,7 @@ def main(folder):
     ]
     rows = [(i["opname"].removeprefix("Op"), i["opcode"]) for i in core["instructions"]]
     out += value_enum("Op", rows)
+    out += results(core["instructions"])
     out += value_enum("GLOp", [(i["opname"], i["opcode"]) for i in glsl["instructions"]])
     for kind in core["operand_kinds"]:
         if kind["category"] not in ("ValueEnum", "BitEnum"):

@@ -17,6 +17,7 @@ use Rattle.definition.specs.WellDeclared.{plainType, EqualTypes, declare
 use Rattle.definition.specs.Finding.{capabilitiesOf, kindCapabilities}
 use Rattle.definition.proofs.Truth.{both-true, true-is, alike-is}
 use Rattle.definition.proofs.Images.{images-agree}
+use Rattle.definition.proofs.Few.{fewNumbers}
 use Rattle.definition.proofs.Sizes.{W, Sized, SmallShape, SmallKey}
 
 -- the ids that a shape's instruction uses
@@ -28,13 +29,14 @@ abbrev pub lengthIds : Option ℕ → ℕ → List ℕ
 lengthIds none y = []
 lengthIds (some n) y = y ∷ []
 
--- an instruction that the reader takes
+-- an instruction that the reader takes, with one at most of numbers up to the end
 pub record Formed (d : Instruction) : Type 0 where
   pub small : d .opcode < 65536
   pub known : layoutOf (d .opcode) .known ≡ true
   pub typed : layoutOf (d .opcode) .typed ≡ declaresId (d .type)
   pub declares : layoutOf (d .opcode) .declares ≡ declaresId (d .result)
   pub operands : formed (layoutOf (d .opcode) .operands) (d .operands) ≡ true
+  pub few : fewNumbers (layoutOf (d .opcode) .operands) (d .operands) ≡ true
 
 -- the same as one test, which the checker computes
 abbrev pub takes : Instruction → Bool
@@ -43,7 +45,8 @@ takes d =
     && (layoutOf (d .opcode) .known
     && (Bool·beq (layoutOf (d .opcode) .typed) (declaresId (d .type))
     && (Bool·beq (layoutOf (d .opcode) .declares) (declaresId (d .result))
-    && formed (layoutOf (d .opcode) .operands) (d .operands))))
+    && (formed (layoutOf (d .opcode) .operands) (d .operands)
+    && fewNumbers (layoutOf (d .opcode) .operands) (d .operands)))))
 
 pub taken : {d : Instruction} → T (takes d) → Formed d
 taken {d} t =
@@ -51,12 +54,14 @@ taken {d} t =
     let b = both-true (layoutOf (d .opcode) .known) _ (a .1) in
     let c = both-true (Bool·beq (layoutOf (d .opcode) .typed) (declaresId (d .type))) _ (b .1) in
     let e = both-true (Bool·beq (layoutOf (d .opcode) .declares) (declaresId (d .result))) _ (c .1) in
+    let g = both-true (formed (layoutOf (d .opcode) .operands) (d .operands)) _ (e .1) in
     record {
       small = ltb→lt (d .opcode) 65536 (a .0);
       known = true-is (layoutOf (d .opcode) .known) (b .0);
       typed = alike-is (layoutOf (d .opcode) .typed) (declaresId (d .type)) (c .0);
       declares = alike-is (layoutOf (d .opcode) .declares) (declaresId (d .result)) (e .0);
-      operands = true-is (formed (layoutOf (d .opcode) .operands) (d .operands)) (e .1);
+      operands = true-is (formed (layoutOf (d .opcode) .operands) (d .operands)) (g .0);
+      few = true-is (fewNumbers (layoutOf (d .opcode) .operands) (d .operands)) (g .1);
     }
 
 -- the rules count widths in bytes, the reader in bits

@@ -251,7 +251,7 @@ module _ (start : ℕ) (s : State) (h : Sound start [] s) where
       (append-nil (s .capabilities ++ []) ∙ append-nil (s .capabilities))
 
   -- what the reader takes
-  all-readable : ((c : ℕ) → List·Memᴰ c (s .capabilities) → c ≤ W) → (d : Instruction) → List·Memᴰ d (instructions s) → Readable (s .last) d
+  pub all-readable : ((c : ℕ) → List·Memᴰ c (s .capabilities) → c ≤ W) → (d : Instruction) → List·Memᴰ d (instructions s) → Readable (s .last) d
   unfolding instructions
   all-readable small d m = outer (List·Memᴰ·append-cases (capabilityInstructions (s .capabilities)) m)
     where

@@ -21,6 +21,7 @@ use Rattle.definition.specs.Finding.{capabilitiesOf, literalKind, litera
 use Rattle.definition.specs.WellDeclared.{times, once, EqualTypes, plainType, needs}
 use Rattle.definition.proofs.Lists.{last-in, snoc-cases, same-itself, times-snoc, times-in, lookup-in, lookup-out}
 use Rattle.definition.proofs.Sizes.{W, Under, Sized, SmallKind, SmallShape}
+use Rattle.definition.proofs.Few.{one-few}
 use Rattle.definition.proofs.ByShape.{taken, FitsIn, FitsLength, Formed, innerIds, lengthIds, Inside, SmallLength, uses-type, Deeper, equal-types-same, facts}
 use Rattle.definition.proofs.Sound.{Sound, Settled, Spelt, Routine, isRoutine, not-shape, Held, declared-snoc, settled-declared, take-sound, begin-sound, declare-sound, other-sound, constants-sound, not-declared, taken-range}
 
@@ -183,7 +184,7 @@ constant-writes : (s : State) (x : ℕ) (xs : List ℕ) → ((last : ℕ) → W 
 unfolding needs uses
 constant-writes s x xs small few = record {
   result = λ t id. refl;
-  formed = λ t id. taken tt;
+  formed = λ t id. taken (rw (one-few xs few) tt);
   fits = λ last t id p q l. record { words = λ B w r. (omega arith, (omega arith, small B w)); short = omega arith };
   other = λ t id p. p;
   free = λ t id. refl;

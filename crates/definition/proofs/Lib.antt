@@ -3,6 +3,7 @@ pub mod Rows
 pub mod Lists
 pub mod Sizes
 pub mod Images
+pub mod Few
 pub mod ByShape
 pub mod Sound
 pub mod Finding
@@ -21,3 +22,4 @@ pub mod Demand
 pub mod WrongModules
 pub mod Words
 pub mod Answers
+pub mod Relisting

@@ -14,6 +14,7 @@ use Rattle.definition.specs.State.{State, annotate, label}
 use Rattle.definition.specs.Rules.{labelIf, annotateIf}
 use Rattle.definition.specs.WellDeclared.{times, targets, targetOf}
 use Rattle.definition.proofs.ByShape.{taken}
+use Rattle.definition.proofs.Few.{one-few}
 use Rattle.definition.proofs.Sizes.{W, Under, under-more}
 use Rattle.definition.proofs.Sound.{Sound, pending, mark-sound, name-sound, taken-range}
 use Rattle.definition.proofs.Finding.{Grew, grew-refl}
@@ -70,10 +71,10 @@ module _ (start : ℕ) (id : ℕ) (P : List (ℕ × ℕ)) where
   low s t h = taken-range start P s h id t .1
 
   pub decorate-sound : (d : ℕ) (xs : List ℕ) (s : State) → d ≤ W → Under W xs → length xs ≤ 1 → Taken id P s → Sound start P s → Sound start P (annotate (decorate id d xs) s)
-  decorate-sound d xs s dw xw few t h =
+  decorate-sound d xs s dw xw short t h =
       mark-sound start id (decorate id d xs) P s
       (record {
-        formed = taken tt;
+        formed = taken (rw (one-few xs short) tt);
         silent = refl;
         marking = tt;
         fits = record { words = λ B p q. (omega (arith, low s t h), (omega arith, under-more W B xs p xw)); short = omega arith };
@@ -81,10 +82,10 @@ module _ (start : ℕ) (id : ℕ) (P : List (ℕ × ℕ)) where
       (decorate-target id d xs) t h
 
   pub member-sound : (i d : ℕ) (xs : List ℕ) (s : State) → i ≤ W → d ≤ W → Under W xs → length xs ≤ 1 → Taken id P s → Sound start P s → Sound start P (annotate (memberDecorate id i d xs) s)
-  member-sound i d xs s iw dw xw few t h =
+  member-sound i d xs s iw dw xw short t h =
       mark-sound start id (memberDecorate id i d xs) P s
       (record {
-        formed = taken tt;
+        formed = taken (rw (one-few xs short) tt);
         silent = refl;
         marking = tt;
         fits = record { words = λ B p q. (omega (arith, low s t h), (omega arith, (omega arith, under-more W B xs p xw))); short = omega arith };

@@ -23,7 +23,7 @@ pub record Readable (last : ℕ) (d : Instruction) : Type 0 where
   pub formed : Formed d
   pub fits : Sized last d
 
-split-body : (o : ℕ) (t r : Option ℕ) (xs : List ℕ) → split o (declaresId t) (declaresId r) (optional t ++ (optional r ++ xs)) ≡ some (record { opcode = o; type = t; result = r; operands = xs })
+pub split-body : (o : ℕ) (t r : Option ℕ) (xs : List ℕ) → split o (declaresId t) (declaresId r) (optional t ++ (optional r ++ xs)) ≡ some (record { opcode = o; type = t; result = r; operands = xs })
 split-body o none none xs = refl
 split-body o none (some r) xs = refl
 split-body o (some t) none xs = refl

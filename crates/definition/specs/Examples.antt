@@ -1,8 +1,8 @@
 -- P1 to P12 of "From sheet to words", with one row of "Seen in class" and three of paper 2, as rows of one table, proved together by
--- one computed test.
-use Prim.Native.Nat.{ℕ}
-use mathlib.Core.Bool.{Bool, true, false, _&&_, Bool·beq}
-use mathlib.Core.List.{List, [], _∷_}
+-- one computed test. Paper 3's rows stand in two tables of their own: words with their lists, and opcodes with their counts.
+use Prim.Native.Nat.{ℕ, _+_, _-_}
+use mathlib.Core.Bool.{Bool, true, false, _&&_, not, Bool·beq}
+use mathlib.Core.List.{List, [], _∷_, _++_}
 use native.Mathlib.Decide.{ℕ-discrete}
 use lib.Dec.{T, eqb}
 use lib.ListN.{length, getD, replicate}
@@ -21,6 +21,11 @@ use Rattle.definition.specs.Unfit.{membersFit, constantFits, globalFits,
 use Rattle.definition.specs.Utf8.{octets, utf8, noZero}
 use Rattle.definition.specs.Zeroable.{zeroables, zeroable}
 use Rattle.definition.specs.Operations.{Answer, Written, Wrapping, Wraps}
+use Rattle.definition.specs.Listing.{More, exactly, orOne, orAny, isWritten, listBody, instructionTest, listFrom, frontTest, listOf, Listing, Listed, list, joinFrom, join}
+
+-- P3's 28 words, which paper 3's rows list
+abbrev pub wordsOfP3 : List ℕ
+wordsOfP3 = 0x07230203 ∷ 0x00010300 ∷ 0x0000001c ∷ 0x00000006 ∷ 0x00000000 ∷ 0x00040047 ∷ 0x00000003 ∷ 0x00000006 ∷ 0x00000010 ∷ 0x00030016 ∷ 0x00000002 ∷ 0x00000020 ∷ 0x00040017 ∷ 0x00000001 ∷ 0x00000002 ∷ 0x00000003 ∷ 0x00040015 ∷ 0x00000005 ∷ 0x00000020 ∷ 0x00000000 ∷ 0x0004002b ∷ 0x00000005 ∷ 0x00000004 ∷ 0x00000004 ∷ 0x0004001c ∷ 0x00000003 ∷ 0x00000001 ∷ 0x00000004 ∷ []
 
 -- a sheet, and what an operation answers
 pub data Row : Type 0 where
@@ -43,9 +48,12 @@ abbrev pub wrapsAs : Bool → Wrapping → Bool
 wrapsAs b (Wraps c) = Bool·beq b c
 wrapsAs b (Wrapping.Refused m) = false
 
--- a buffer of 64 words, each 7, so that a word that stays is told from a word that is written
+-- a buffer of so many words, each 7, so that a word that stays is told from a word that is written
+abbrev pub sevens : ℕ → List ℕ
+sevens n = replicate n 7
+
 abbrev pub lent : List ℕ
-lent = replicate 64 7
+lent = sevens 64
 
 -- the buffer, once the words are written over its front
 abbrev pub over : List ℕ → List ℕ → List ℕ
@@ -66,7 +74,7 @@ rows =
     -- P2 the vec3 alone: 12 words, bound 3
     ∷ counts (0x01 ∷ 0x00 ∷ 0x00 ∷ 0x00 ∷ 0x00 ∷ 0x00 ∷ 0x00 ∷ 0x05 ∷ 0x11 ∷ 0xff ∷ 0x03 ∷ 0x02 ∷ 0x04 ∷ []) 12 3
     -- P3, a vec3 and an array of four, word for word
-    ∷ writes (0x01 ∷ 0x00 ∷ 0x00 ∷ 0x00 ∷ 0x00 ∷ 0x00 ∷ 0x00 ∷ 0x05 ∷ 0x11 ∷ 0xff ∷ 0x03 ∷ 0x02 ∷ 0x04 ∷ 0x00 ∷ 0x0c ∷ 0x16 ∷ 0xff ∷ 0x00 ∷ 0x00 ∷ 0x00 ∷ 0x00 ∷ 0x00 ∷ 0x04 ∷ 0x00 ∷ 0x00 ∷ 0x00 ∷ 0x10 ∷ []) (0x07230203 ∷ 0x00010300 ∷ 0x0000001c ∷ 0x00000006 ∷ 0x00000000 ∷ 0x00040047 ∷ 0x00000003 ∷ 0x00000006 ∷ 0x00000010 ∷ 0x00030016 ∷ 0x00000002 ∷ 0x00000020 ∷ 0x00040017 ∷ 0x00000001 ∷ 0x00000002 ∷ 0x00000003 ∷ 0x00040015 ∷ 0x00000005 ∷ 0x00000020 ∷ 0x00000000 ∷ 0x0004002b ∷ 0x00000005 ∷ 0x00000004 ∷ 0x00000004 ∷ 0x0004001c ∷ 0x00000003 ∷ 0x00000001 ∷ 0x00000004 ∷ [])
+    ∷ writes (0x01 ∷ 0x00 ∷ 0x00 ∷ 0x00 ∷ 0x00 ∷ 0x00 ∷ 0x00 ∷ 0x05 ∷ 0x11 ∷ 0xff ∷ 0x03 ∷ 0x02 ∷ 0x04 ∷ 0x00 ∷ 0x0c ∷ 0x16 ∷ 0xff ∷ 0x00 ∷ 0x00 ∷ 0x00 ∷ 0x00 ∷ 0x00 ∷ 0x04 ∷ 0x00 ∷ 0x00 ∷ 0x00 ∷ 0x10 ∷ []) wordsOfP3
     -- P4 Scalar and Atomic Float 4: one id, bound 2
     ∷ counts (0x01 ∷ 0x00 ∷ 0x00 ∷ 0x00 ∷ 0x00 ∷ 0x00 ∷ 0x00 ∷ 0x04 ∷ 0x10 ∷ 0xff ∷ 0x02 ∷ 0x04 ∷ 0x00 ∷ 0x04 ∷ 0x13 ∷ 0xff ∷ 0x02 ∷ 0x04 ∷ []) 8 2
     -- P5 true, false: bound 4
@@ -113,3 +121,178 @@ rows =
 pub examples : T (every right rows)
 unfolding ℕ-discrete right rows u16At u32At u64At nameAt nameEnd formatCapabilities dimCapabilities literalWith findAt find compositeOf nullOf words allWords packed put putCount sameLiteral recordTest declareRecord judged check declare wrapped declareMembers anyDynamic declareType idsOf sharedType entryIds declareFunction constantOf declareConstant endsDynamic needsWrapper remapOf declareGlobal kindOf formats sameKey imageOf recordAt afterRecord tagRank u16sAt u32sAt membersAt membersEnd typeFields literalFields functionFields constantFields globalFields availableFields remapFields entryOf sameNumbers sameComposite occurrences listed lookup capabilityInstructions instructions moduleWords headerTest add addRecord noRecord placeTest memberNames scalarFits spaceFits classFits bindingFits memberTypes sameBytes sameRecord typeRead remapRead entryTest readingTest records membersFit constantFits globalFits fitnessTest octets utf8 noZero zeroables zeroable
 examples = tt
+
+-- ---- paper 3: words and their lists
+
+-- words, how many sevens the second buffer holds, and what is answered
+pub data ListRow : Type 0 where
+  -- the list, whose length is the answer, the rest of the buffer unchanged; joined again the words
+  lists : List ℕ → ℕ → List ℕ → ListRow
+  -- the number, and the buffer unchanged
+  unlisted : List ℕ → ℕ → ℕ → ListRow
+
+abbrev pub listedAs : ℕ → Listing → Bool
+listedAs n (Listed m) = eqb m n
+listedAs n (Listing.Refused m) = false
+
+abbrev pub unlistedWith : ℕ → Listing → Bool
+unlistedWith n (Listed m) = false
+unlistedWith n (Listing.Refused m) = eqb m n
+
+unfoldable pub listRight : ListRow → Bool
+listRight (lists ws n l) =
+    let b = sevens n in
+    listedAs (length l) (list ws b .answer) && (sameBytes (list ws b .buffer) (over l b) && sameBytes (join l) ws)
+listRight (unlisted ws n k) =
+    let b = sevens n in
+    unlistedWith k (list ws b .answer) && sameBytes (list ws b .buffer) b
+
+-- words behind a header that is document 01's
+abbrev pub front : List ℕ → List ℕ
+front ws = 0x07230203 ∷ 0x00010300 ∷ 28 ∷ 1 ∷ 0 ∷ ws
+
+-- the header; ArrayStride 16 on 3; float 2; vec3 1; uint 5; the 4 (id 4) of type 5; array 3 of 1
+abbrev pub listOfP3 : List ℕ
+listOfP3 = 0x07230203 ∷ 0x00010300 ∷ 28 ∷ 6 ∷ 0 ∷ 71 ∷ 0 ∷ 3 ∷ 3 ∷ 6 ∷ 16 ∷ 22 ∷ 2 ∷ 1 ∷ 32 ∷ 23 ∷ 1 ∷ 2 ∷ 2 ∷ 3 ∷ 21 ∷ 5 ∷ 2 ∷ 32 ∷ 0 ∷ 43 ∷ 4 ∷ 2 ∷ 5 ∷ 4 ∷ 28 ∷ 3 ∷ 2 ∷ 1 ∷ 4 ∷ []
+
+unfoldable pub listRows : List ListRow
+listRows =
+    -- "first the five header words, then for each instruction its opcode, its result id (0 if none), ..": P3, word by word
+    lists wordsOfP3 64 listOfP3
+    -- "the list joined again is the module": where nothing stands behind the header
+    ∷ lists (front []) 5 (front [])
+    -- "the magic, version or last header word" alone are tested: another generator and bound
+    ∷ lists (0x07230203 ∷ 0x00010300 ∷ 9 ∷ 0xffffffff ∷ 0 ∷ []) 64 (0x07230203 ∷ 0x00010300 ∷ 9 ∷ 0xffffffff ∷ 0 ∷ [])
+    -- "It doesn't judge ids": a vector of nothing declared, its own id 0
+    ∷ lists (front (0x00040017 ∷ 0 ∷ 9 ∷ 4 ∷ [])) 64 (front (23 ∷ 0 ∷ 2 ∷ 9 ∷ 4 ∷ []))
+    -- "18 when there are fewer than five words"
+    ∷ unlisted (0x07230203 ∷ 0x00010300 ∷ 28 ∷ 1 ∷ []) 64 18
+    -- 18: "the magic .. is not document 01's"
+    ∷ unlisted (0x03022307 ∷ 0x00010300 ∷ 28 ∷ 1 ∷ 0 ∷ []) 64 18
+    -- 18: "the .. version .. is not document 01's"
+    ∷ unlisted (0x07230203 ∷ 0x00010000 ∷ 28 ∷ 1 ∷ 0 ∷ []) 64 18
+    -- 18: "the .. last header word is not document 01's", whatever stands behind it
+    ∷ unlisted (0x07230203 ∷ 0x00010300 ∷ 28 ∷ 1 ∷ 1 ∷ 0 ∷ []) 64 18
+    -- "19 when an instruction's word count is 0"
+    ∷ unlisted (front (0x00000013 ∷ [])) 64 19
+    -- 19: "or passes the end"
+    ∷ unlisted (front (0x00020013 ∷ [])) 64 19
+    -- 19: a zero word behind a module
+    ∷ unlisted (wordsOfP3 ++ 0 ∷ []) 64 19
+    -- "19 before 20 within each": an opcode that Declare never writes, whose count passes the end
+    ∷ unlisted (front (0x00020000 ∷ [])) 64 19
+    -- "20 when an opcode is none that Declare writes": OpNop
+    ∷ unlisted (front (0x00010000 ∷ [])) 64 20
+    -- 20: "or the count none that it writes for that opcode": an OpDecorate of two words
+    ∷ unlisted (front (0x00020047 ∷ 1 ∷ [])) 64 20
+    -- 20: an OpDecorate of five words
+    ∷ unlisted (front (0x00050047 ∷ 1 ∷ 2 ∷ 3 ∷ 4 ∷ [])) 64 20
+    -- 20: an OpTypeInt of three words
+    ∷ unlisted (front (0x00030015 ∷ 1 ∷ 32 ∷ [])) 64 20
+    -- "Instructions are taken in order": 20, then 19
+    ∷ unlisted (front (0x00010000 ∷ 0 ∷ [])) 64 20
+    -- "Instructions are taken in order": 19, then 20
+    ∷ unlisted (front (0 ∷ 0x00010000 ∷ [])) 64 19
+    -- "16 .. when the second buffer is shorter than the list": one word too short
+    ∷ unlisted wordsOfP3 34 16
+    -- "It answers the list's length": a buffer just long enough
+    ∷ lists wordsOfP3 35 listOfP3
+    -- "words past the list keep their values": one word more
+    ∷ lists wordsOfP3 36 listOfP3
+    -- "16 comes last": behind 20
+    ∷ unlisted (front (0x00010000 ∷ [])) 0 20
+    ∷ []
+
+-- all of them are right
+pub list-examples : T (every listRight listRows)
+unfolding ℕ-discrete listRight listRows sameBytes words put isWritten instructionTest listFrom frontTest listOf list joinFrom join
+list-examples = tt
+
+-- ---- paper 3: "20 when an opcode is none that Declare writes, or the count none that it writes for that opcode"
+
+-- an opcode, its fewest words, how many more it may have, and which word behind the first is its result id: 0 none, 1, 2
+pub data Counted : Type 0 where
+  counted : ℕ → ℕ → More → ℕ → Counted
+
+abbrev pub oneMore : More → Bool
+oneMore exactly = false
+oneMore orOne = true
+oneMore orAny = true
+
+abbrev pub anyMore : More → Bool
+anyMore exactly = false
+anyMore orOne = false
+anyMore orAny = true
+
+-- so many words are written and not one fewer; one more, two more and 65,535, the most that a first word can say, where the row says
+-- so; and of 1, 2, 3 .. behind the first word the result id is the one that the row says
+unfoldable pub countRight : Counted → Bool
+countRight (counted o n m r) =
+    isWritten o n
+    && (not (isWritten o (n - 1))
+    && (Bool·beq (isWritten o (n + 1)) (oneMore m)
+    && (Bool·beq (isWritten o (n + 2)) (anyMore m)
+    && (Bool·beq (isWritten o 65535) (anyMore m)
+    && eqb (getD (listBody o (1 ∷ 2 ∷ 3 ∷ 4 ∷ 5 ∷ 6 ∷ 7 ∷ 8 ∷ [])) 1 0) r))))
+
+-- the 26 opcodes that Declare writes
+unfoldable pub countRows : List Counted
+countRows =
+    -- OpName: "a name of one word or more"
+    counted 5 3 orAny 0
+    -- OpMemberName: "a name of one word or more"
+    ∷ counted 6 4 orAny 0
+    -- OpCapability
+    ∷ counted 17 2 exactly 0
+    -- OpTypeVoid
+    ∷ counted 19 2 exactly 1
+    -- OpTypeBool
+    ∷ counted 20 2 exactly 1
+    -- OpTypeInt
+    ∷ counted 21 4 exactly 1
+    -- OpTypeFloat
+    ∷ counted 22 3 exactly 1
+    -- OpTypeVector
+    ∷ counted 23 4 exactly 1
+    -- OpTypeMatrix
+    ∷ counted 24 4 exactly 1
+    -- OpTypeImage
+    ∷ counted 25 9 exactly 1
+    -- OpTypeSampler
+    ∷ counted 26 2 exactly 1
+    -- OpTypeArray
+    ∷ counted 28 4 exactly 1
+    -- OpTypeRuntimeArray
+    ∷ counted 29 3 exactly 1
+    -- OpTypeStruct: "lists of members .. may be any length"
+    ∷ counted 30 2 orAny 1
+    -- OpTypePointer
+    ∷ counted 32 4 exactly 1
+    -- OpTypeFunction: "lists of .. parameters, may be any length"
+    ∷ counted 33 3 orAny 1
+    -- OpConstantTrue
+    ∷ counted 41 3 exactly 2
+    -- OpConstantFalse
+    ∷ counted 42 3 exactly 2
+    -- OpConstant: a value of one word or two
+    ∷ counted 43 4 orOne 2
+    -- OpConstantComposite: "lists of .. parts .. may be any length"
+    ∷ counted 44 3 orAny 2
+    -- OpConstantNull
+    ∷ counted 46 3 exactly 2
+    -- OpVariable: with an initializer or without
+    ∷ counted 59 4 orOne 2
+    -- OpDecorate: a decoration with a number or without
+    ∷ counted 71 3 orOne 0
+    -- OpMemberDecorate: a decoration with a number or without
+    ∷ counted 72 4 orOne 0
+    -- OpTypeRayQueryKHR
+    ∷ counted 4472 2 exactly 1
+    -- OpTypeAccelerationStructureKHR
+    ∷ counted 5341 2 exactly 1
+    ∷ []
+
+-- all of them are right
+pub count-examples : T (every countRight countRows)
+unfolding ℕ-discrete countRight countRows isWritten
+count-examples = tt

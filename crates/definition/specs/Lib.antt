@@ -17,4 +17,5 @@ pub mod Answered
 pub mod Reader
 pub mod ReadTypes
 pub mod WellDeclared
+pub mod Listing
 pub mod Examples

@@ -1,20 +1,25 @@
 -- Each number says the answer that it was made from, of the answers that the operations give: a bound is not 0, a word count has 32
--- bits, and 0, 256 and 257 are no refusals.
-use Prim.Native.Nat.{ℕ, _+_, _*_, _/_, _%_, _<_, _≤_}
+-- bits, 0, 256 and 257 are no refusals, and
+-- no refusal reaches 256.
+use Prim.Native.Nat.{ℕ, _+_, _*_, _-_, _/_, _%_, _<_, _≤_}
 use mathlib.Core.Path.{_≡_, refl, sym, ap, _∙_, subst}
 use mathlib.Core.Bool.{Bool, true, false}
 use mathlib.Core.Logic.{_⊎_, inl, inr}
 use mathlib.Core.List.{List}
 use native.Mathlib.Omega.{arith}
 use borrow.Author.Tests.{lt-ltb, le-ltb, ne-eqb}
+use lib.ListN.{length}
 use Rattle.definition.specs.Answered.{Whole, Unchanged, Refusal}
+use Rattle.definition.specs.Listing.{Listing, Listed, Relisted, WholeList, Unlisted, ListRefusal}
 use Rattle.definition.specs.Operations.{Verdict, Answer, Written, Declared, Wrapping, Wraps}
 use Rattle.module_layout.specs.declared.Answer.{Answer as Given}
 use Rattle.module_layout.specs.Finished.{answerOf, declaredAs}
 use Rattle.declarations.specs.declared.Verdict.{Verdict as GivenVerdict}
 use Rattle.declarations.specs.declared.Wrapping.{Wrapping as GivenWrapping}
 use Rattle.declarations.specs.Promise.{DeclarePromise, CheckPromise, WrappedPromise, verdictAs, wrappingAs}
-use Rattle.exports.specs.Numbers.{verdictNumber, answerNumber, wrappingNumber, verdictIn, answerIn, wrappingIn, declaredIn, CheckExported, DeclareExported, WrappedExported}
+use Rattle.listing.specs.declared.Listing.{Listing as GivenListing}
+use Rattle.listing.specs.Promise.{ListPromise, listingAs, relistedAs}
+use Rattle.exports.specs.Numbers.{verdictNumber, answerNumber, wrappingNumber, listingNumber, LengthFits, verdictIn, answerIn, wrappingIn, listingIn, declaredIn, relistedIn, CheckExported, DeclareExported, WrappedExported, ListExported}
 
 -- ---- Check
 
@@ -79,3 +84,40 @@ pub wrapped-exported : (s : List ℕ) (index : ℕ) (w : GivenWrapping) (n : ℕ
 wrapped-exported s index w n e p =
     let q : wrappingIn n ≡ wrappingAs w = ap wrappingIn e ∙ wrapping-says (wrappingAs w) (p .answered) in
     record { answered = rw q (p .answered); same = q ∙ p .same }
+
+-- ---- List
+
+-- the list lies within the buffer, whose length has 61 bits
+pub length-fits : (ws b : List ℕ) (r : GivenListing) (after : List ℕ) → length b < 9223372036854775808 → ListPromise ws b r after → LengthFits (listingAs r)
+length-fits ws b r after h p = go (listingAs r) (p .answered)
+  where
+    go : (a : Listing) → WholeList ws b (record { answer = a; buffer = after }) ⊎ Unlisted b (record { answer = a; buffer = after }) → LengthFits a
+    go (Listed n) (inl w) = let q : n ≡ length (w .whole) = cc in omega (arith, w .room)
+    go (Listed n) (inr u) = let z : _≡_ {A = ℕ} 0 1 = cc in absurd (omega arith)
+    go (Listing.Refused n) a = tt
+
+listing-says : (a : Listing) → ((n : ℕ) × (a ≡ Listed n)) ⊎ ((n : ℕ) × (ListRefusal n ⊎ (n ≡ 16)) × (a ≡ Listing.Refused n)) → listingIn (listingNumber a) ≡ a
+listing-says a (inl q) = let e : 256 + q .0 - 256 ≡ q .0 = omega arith in rw (q .1, le-ltb (256 + q .0) 256 (omega arith), e) refl
+listing-says a (inr q) = rw (q .2, lt-ltb (q .0) 256 (omega (arith, few (q .1)))) refl
+  where
+    few : {n : ℕ} → ListRefusal n ⊎ (n ≡ 16) → n ≤ 20
+    few (inl (inl e)) = omega arith
+    few (inl (inr (inl e))) = omega arith
+    few (inl (inr (inr e))) = omega arith
+    few (inr e) = omega arith
+
+pub list-exported : (ws b : List ℕ) (r : GivenListing) (n : ℕ) (after : List ℕ) → n ≡ listingNumber (listingAs r) → ListPromise ws b r after → ListExported ws b n after
+list-exported ws b r n after e p =
+    let q : listingIn n ≡ listingAs r = ap listingIn e ∙ listing-says (listingAs r) (cases (p .answered)) in
+    let d : relistedIn n after ≡ relistedAs r after = λ i. record { answer = q i; buffer = after } in
+    record {
+      answered = subst (λ (x : Relisted). WholeList ws b x ⊎ Unlisted b x) (sym d) (p .answered);
+      same = d ∙ p .same;
+      joins = λ count w. p .joins count (sym q ∙ w);
+      takes = p .takes;
+    }
+  where
+    cases : WholeList ws b (relistedAs r after) ⊎ Unlisted b (relistedAs r after)
+        → ((m : ℕ) × (listingAs r ≡ Listed m)) ⊎ ((m : ℕ) × (ListRefusal m ⊎ (m ≡ 16)) × (listingAs r ≡ Listing.Refused m))
+    cases (inl w) = inl (length (w .whole), w .answer)
+    cases (inr u) = inr (u .number, u .known, u .answer)

@@ -1,12 +1,14 @@
-// For C and Rust to call: document 01's three operations, their answers as numbers. `include/voulkrod.h` says what each
+// For C and Rust to call: document 01's three operations and paper 3's, their answers as numbers. `include/voulkrod.h` says what each
 // pointer must be; a slice passes as a pointer and a length.
 use declarations::Verdict;
 use declarations::Wrapping;
+use listing::Listing;
 use module_layout::Answer;
 ghost use mathlib.Core.Path.{_≡_};
 ghost use Rattle.module_layout.specs.Finished.{answerOf};
 ghost use Rattle.declarations.specs.Promise.{verdictAs, wrappingAs};
-ghost use Rattle.exports.specs.Numbers.{verdictNumber, answerNumber, wrappingNumber, CheckExported, DeclareExported, WrappedExported};
+ghost use Rattle.listing.specs.Promise.{listingAs};
+ghost use Rattle.exports.specs.Numbers.{verdictNumber, answerNumber, wrappingNumber, listingNumber, LengthFits, CheckExported, DeclareExported, WrappedExported, ListExported};
 
 fn number_of_verdict(v: Verdict) -> u32
     ensures { λ n. ⌜ n ≡ verdictNumber (verdictAs v) ⌝ }
@@ -40,6 +42,16 @@ fn number_of_wrapping(w: Wrapping) -> u32
     }
 }
 
+fn number_of_listing(l: Listing) -> u64
+    requires { ⌜ LengthFits (listingAs l) ⌝ }
+    ensures { λ n. ⌜ n ≡ listingNumber (listingAs l) ⌝ }
+{
+    match l {
+        Listing::Listed(n) => 256 + n as u64,
+        Listing::Refused(n) => n as u64,
+    }
+}
+
 // Check: 0 for Fit, else the number of the refusal.
 #[no_mangle]
 pub extern "C" fn voulkrod_check(sheet: &[u8]) -> u32
@@ -63,4 +75,12 @@ pub extern "C" fn voulkrod_wrapped(sheet: &[u8], index: usize) -> u32
     ensures { λ n. ⌜ WrappedExported (now (sheet .entry)) index n ⌝ }
 {
     number_of_wrapping(declarations::wrapped(sheet, index))
+}
+
+// List: 256 and the list's length together, else the number of the refusal, which is below 256.
+#[no_mangle]
+pub extern "C" fn voulkrod_list(words: &[u32], list: &mut [u32]) -> u64
+    ensures { λ n. ⌜ ListExported (now (words .entry)) (now (list .entry)) n (now (list .exit)) ⌝ }
+{
+    number_of_listing(listing::list(words, list))
 }

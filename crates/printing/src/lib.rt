@@ -23,7 +23,7 @@ fn digit(d: u32) -> u8
 }
 
 // Puts the last k digits of n at a place, the lowest first.
-fn put_digits(text: &mut [u8], at: usize, base: u32, k: usize, n: u32)
+pub fn put_digits(text: &mut [u8], at: usize, base: u32, k: usize, n: u32)
     requires { ⌜ (0 < base) × (base ≤ 16) × (at + k ≤ length (now text)) ⌝ }
     ensures { λ _. ⌜ now (text .exit) ≡ sets (now (text .entry)) at (digits base k n) ⌝ }
 {
@@ -60,7 +60,7 @@ pub fn put_lines(text: &mut [u8], words: &[u32], n: usize) -> usize
 }
 
 // Puts bytes at a place, and says which place is behind them.
-fn put_bytes(text: &mut [u8], at: usize, bytes: &[u8]) -> usize
+pub fn put_bytes(text: &mut [u8], at: usize, bytes: &[u8]) -> usize
     requires { ⌜ at + length (now bytes) ≤ length (now text) ⌝ }
     ensures { λ r. ⌜ PutText (now (bytes .entry)) (now (text .entry)) at (now (text .exit)) r ⌝ }
 {

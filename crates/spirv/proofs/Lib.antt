@@ -1,4 +1,5 @@
 pub mod Puts
+pub mod Splices
 pub mod Packed
 pub mod Heads
 pub mod Spaces

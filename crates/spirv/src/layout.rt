@@ -10,9 +10,9 @@ use crate::helpers::string_to_words;
 use crate::words::put_ids;
 use crate::words::put_words;
 
-const MAGIC_NUMBER: u32 = 0x07230203;
+pub const MAGIC_NUMBER: u32 = 0x07230203;
 
-const VERSION: u32 = 0x00010300;
+pub const VERSION: u32 = 0x00010300;
 
 const GENERATOR: u32 = 28;
 

@@ -2,12 +2,13 @@
 -- one splice, element by element; rows and words are regions read in two ways.
 use Prim.Native.Nat.{ℕ, zero, suc, _+_, _*_, _-_, _≤_, _<_}
 use mathlib.Core.Path.{_≡_, refl, sym, ap, _∙_}
-use mathlib.Core.List.{List, [], _∷_, _++_, append-assoc, append-nil}
+use mathlib.Core.List.{List, [], _∷_, _++_, append-assoc}
 use native.Mathlib.Numerals.{add-one}
 use native.Mathlib.Omega.{arith}
 use lib.ListN.{length, getD, take, drop, length-append, length-take, length-drop, List·getD-append}
-use lib.Seq.{length-take-le, getD-take, getD-drop, getD-append-add, ext-getD, take-add, drop-drop, take-at, drop-at, drop-append-add}
+use lib.Seq.{length-take-le, getD-take, getD-drop, getD-append-add, ext-getD, take-add, drop-drop, take-at, drop-at}
 use Rattle.spirv.specs.Sections.{splice}
+use Rattle.spirv.proofs.Splices.{splice-length}
 use Rattle.writer.specs.Rows.{TableRow, tableRow, RowKind, pair, triple, rowLength, rowAt, tableRows, part}
 
 -- the lists have the same elements in a region
@@ -17,9 +18,6 @@ Agree xs ys b n = (j : ℕ) → b ≤ j → j < b + n → getD ys j 0 ≡ getD x
 module _ (xs : List ℕ) (p : ℕ) (ws : List ℕ) (room : p + length ws ≤ length xs) where
   head-length : length (take p xs ++ ws) ≡ p + length ws
   head-length = simp (length-append, length-take-le p xs (omega arith))
-
-  pub splice-length : length (splice xs p ws) ≡ length xs
-  splice-length = simp (length-append, length-take-le p xs (omega arith), length-drop) (omega arith)
 
   before : (j : ℕ) → j < p → getD (splice xs p ws) j 0 ≡ getD xs j 0
   before j h =
@@ -49,29 +47,6 @@ module _ (xs : List ℕ) (p : ℕ) (ws : List ℕ) (room : p + length ws ≤ len
 
   pub right : (b n : ℕ) → p + length ws ≤ b → Agree xs (splice xs p ws) b n
   right b n h j l r = behind j (omega arith)
-
-take-drop : (n : ℕ) (l : List ℕ) → take n l ++ drop n l ≡ l
-take-drop zero l = refl
-take-drop (suc n) [] = refl
-take-drop (suc n) (x ∷ l) = ap (λ (m : List ℕ). x ∷ m) (take-drop n l)
-
--- nothing is written
-pub splice-none : (xs : List ℕ) (p : ℕ) → xs ≡ splice xs p []
-splice-none xs p =
-    let e : p + 0 ≡ p = omega arith in
-    sym (ap (λ (l : List ℕ). l ++ drop (p + 0) xs) (append-nil (take p xs)) ∙ ap (λ (j : ℕ). take p xs ++ drop j xs) e ∙ take-drop p xs)
-
--- what is written behind what was written is written with it
-pub splice-splice : (xs : List ℕ) (p : ℕ) (ws : List ℕ) (q : ℕ) (vs : List ℕ) → q ≡ p + length ws → q + length vs ≤ length xs → splice (splice xs p ws) q vs ≡ splice xs p (ws ++ vs)
-splice-splice xs p ws q vs e room =
-    let h : length (take p xs ++ ws) ≡ q = simp (length-append, length-take-le p xs (omega arith)) (omega arith) in
-    let f : p + length ws + length vs ≡ p + length (ws ++ vs) = simp length-append (omega arith) in
-    let g : q + length vs ≡ length (take p xs ++ ws) + length vs = omega arith in
-    let a : take q (splice xs p ws) ≡ take p xs ++ ws = take-at (take p xs ++ ws) (drop (p + length ws) xs) q h in
-    let b : drop (q + length vs) (splice xs p ws) ≡ drop (p + length (ws ++ vs)) xs =
-    ap (λ (j : ℕ). drop j (splice xs p ws)) g ∙ drop-append-add (take p xs ++ ws) (drop (p + length ws) xs) (length vs)
-    ∙ drop-drop (length vs) (p + length ws) xs ∙ ap (λ (j : ℕ). drop j xs) f in
-    (λ i. (a i ++ vs) ++ b i) ∙ ap (λ (l : List ℕ). l ++ drop (p + length (ws ++ vs)) xs) (append-assoc (take p xs) ws vs)
 
 -- ---- rows, of either kind
 

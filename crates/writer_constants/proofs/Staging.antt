@@ -19,7 +19,8 @@ use Rattle.writer.specs.Regions.{valuesAt}
 use Rattle.writer.specs.Cost.{staging}
 use Rattle.writer.specs.Held.{Held, RoomIn}
 use Rattle.writer.specs.Steps.{idIn}
-use Rattle.writer.proofs.Regions.{left, splice-none, splice-splice}
+use Rattle.spirv.proofs.Splices.{splice-none, splice-splice}
+use Rattle.writer.proofs.Regions.{left}
 use Rattle.writer.proofs.Staged.{waiting}
 use Rattle.writer.proofs.Values.{value-there, value-past}
 

@@ -17,7 +17,7 @@ use Rattle.writer.specs.declared.Writer.{Writer}
 use Rattle.writer.specs.Cost.{staging}
 use Rattle.writer.specs.Held.{Held, RoomIn}
 use Rattle.writer.specs.Staged.{Staged}
-use Rattle.writer.proofs.Regions.{splice-none, splice-splice}
+use Rattle.spirv.proofs.Splices.{splice-none, splice-splice}
 use Rattle.writer.proofs.Staged.{waiting, held-behind, staged-by}
 
 entries-length : (s : State) (ts : List ℕ) → length (entryIds s ts) ≡ length ts

@@ -3,12 +3,13 @@
 
 use crate::compiled::{self, Compiled, Slip, SLIPS};
 use crate::faults::{Fault, FAULTS};
-use crate::generator::{self, Case, Expect, Random, PAPERS};
-use crate::lines::{self, Line};
+use crate::generator::{self, Case, Expect, Listing, Longer, Random, Words, OPCODES, PAPERS};
+use crate::lines::{self, Line, Question};
 use crate::reached::Reached;
 use crate::reference;
 use crate::second::{self, Refusal};
 use crate::sheet::{has_functions, has_halves, HEADER, MAX_BOUND};
+use std::collections::BTreeSet;
 
 pub const SEED: u64 = 0x0907_0004_1943_0300;
 
@@ -18,11 +19,17 @@ const HALVES_SEED: u64 = 0x0900_0009_0016_0201;
 /// Of what paper 2 adds.
 const FUNCTIONS_SEED: u64 = 0x0900_0048_0033_0202;
 
+/// Of what paper 3 adds.
+const LISTS_SEED: u64 = 0x0900_0005_0018_0203;
+
 /// Of a run at scale, where no other is said.
 pub const SCALE_SEED: u64 = 0x0316_0040_9600_1719;
 
 /// The longest of the fresh lines, so that some hundred are computed in seconds.
 const LONGEST_FRESH: usize = 800;
+
+/// Of how many modules of fresh lines one is listed.
+const FRESH_LISTS: usize = 4;
 
 /// How many sheets lie between two lines of progress.
 const STRIDE: usize = 50_000;
@@ -41,6 +48,124 @@ enum Expected {
 struct Asked {
     sheet: Vec<u8>,
     expected: Expected,
+}
+
+/// What words have to be listed as.
+enum Due {
+    /// Their list, by the registry's grammar.
+    Listed(Vec<u32>),
+    Refused(u8),
+    /// Where only the second reading has an opinion: it judges another program alone.
+    Opinion(Result<Vec<u32>, u8>),
+}
+
+struct ListAsked {
+    words: Vec<u32>,
+    due: Due,
+}
+
+impl ListAsked {
+    /// A module, which is listed, whatever it is.
+    fn module(words: &[u32]) -> Self {
+        let due = Due::Listed(generator::list_by_registry(words));
+        ListAsked { words: words.to_vec(), due }
+    }
+
+    fn new(Words { words, expect }: Words) -> Self {
+        let due = match expect {
+            Listing::Listed => Due::Listed(generator::list_by_registry(&words)),
+            Listing::Refused(number) => Due::Refused(number),
+            Listing::Unknown => {
+                let mut list = vec![0; 2 * words.len()];
+                let answer = second::list(&words, &mut list, None);
+                Due::Opinion(answer.map(|length| list[..length].to_vec()))
+            }
+        };
+        ListAsked { words, due }
+    }
+
+    /// The list that is due, or the number of the refusal.
+    fn answer(&self) -> Result<&[u32], u8> {
+        match &self.due {
+            Due::Listed(list) => Ok(list),
+            Due::Refused(number) => Err(*number),
+            Due::Opinion(answer) => answer.as_deref().map_err(|number| *number),
+        }
+    }
+
+    /// The list that is due in a buffer of so many words.
+    fn answer_in(&self, room: usize) -> Result<&[u32], u8> {
+        match self.answer()? {
+            list if list.len() > room => Err(16),
+            list => Ok(list),
+        }
+    }
+
+    /// Buffers worth trying.
+    fn rooms(&self) -> Vec<usize> {
+        match self.answer() {
+            Ok(list) => vec![list.len() + 3, list.len(), list.len() - 1, 0],
+            Err(_) => vec![2 * self.words.len() + 8, 0],
+        }
+    }
+
+    fn line(&self, room: Option<usize>) -> String {
+        let answer = match self.answer_in(lines::room_to_list(&self.words, room)) {
+            Ok(list) => lines::show_words(list),
+            Err(number) => lines::refused(number),
+        };
+        format!("{} | {answer}", lines::asks_to_list(&self.words, room))
+    }
+}
+
+/// Words to list, with what is due.
+fn lists() -> Vec<ListAsked> {
+    lists_by_heading().into_iter().flat_map(|(_, all)| all).collect()
+}
+
+fn lists_by_heading() -> Vec<(&'static str, Vec<ListAsked>)> {
+    let mut random = Random::new(LISTS_SEED, PAPERS);
+    let mut modules = Vec::new();
+    for sheet in generator::sheets_to_list(&mut random) {
+        if let reference::Answer::Module(words, _) = reference::run(&sheet) {
+            modules.push(words);
+        }
+    }
+    let every = generator::instructions(&modules[2]).into_iter().collect();
+    let missing = generator::counts_missing(&every).1;
+    assert!(missing.is_empty(), "the third module to list is one of every opcode: {missing:?}");
+    let asked = |all: Vec<Words>| all.into_iter().map(ListAsked::new).collect();
+    let all = generator::words_to_list(&mut random, &modules);
+    all.into_iter().map(|(what, all)| (what, asked(all))).collect()
+}
+
+/// How the second reading's list differs from what is due in one of the buffers, if it does,
+/// and in which.
+fn list_difference(one: &ListAsked, fault: Option<Fault>) -> Option<(usize, String)> {
+    if matches!(one.due, Due::Opinion(_)) {
+        return None;
+    }
+    one.rooms().into_iter().find_map(|room| {
+        let own = lines::second_list(&one.words, room, fault);
+        match (one.answer_in(room), own) {
+            (Ok(due), Ok(own)) if own == due => None,
+            (Err(number), Err(why)) if why == lines::refused(number) => None,
+            (Ok(due), Ok(own)) => {
+                let at = own.iter().zip(due).take_while(|(a, b)| a == b).count();
+                Some((room, format!("the list differs from word {at} on")))
+            }
+            (Ok(_), Err(why)) => Some((room, format!("expected is a list, not {why}"))),
+            (Err(number), Err(why)) => Some((room, format!("expected is {number}, not {why}"))),
+            (Err(number), Ok(_)) => Some((room, format!("expected is {number}, not a list"))),
+        }
+    })
+}
+
+fn compiled_list_difference(one: &ListAsked, compiled: &mut Compiled) -> Option<String> {
+    match one.answer() {
+        Ok(list) => compiled.listed(&one.words, list),
+        Err(number) => compiled.unlisted(&one.words, number),
+    }
 }
 
 fn ask_reference(sheet: &[u8]) -> Option<Expected> {
@@ -242,6 +367,12 @@ struct Tally {
     largest: usize,
     missing: usize,
     opinions: usize,
+    /// Draws what is changed in modules before they are listed.
+    random: Random,
+    /// Inputs to list, and those of which the second reading alone has an opinion.
+    lists: usize,
+    listed: usize,
+    list_opinions: usize,
     differences: usize,
 }
 
@@ -258,6 +389,10 @@ impl Tally {
             largest: 0,
             missing: 0,
             opinions: 0,
+            random: Random::new(LISTS_SEED, PAPERS),
+            lists: 0,
+            listed: 0,
+            list_opinions: 0,
             differences: 0,
         }
     }
@@ -287,12 +422,44 @@ impl Tally {
         if compiled::LINKED {
             of_compiled = compiled_difference(one, &mut self.compiled);
         }
+        self.report_differences(of_second, of_compiled, || lines::hex(&one.sheet));
+        // The module, and the module with one thing changed, are listed too.
+        if let Expected::Module { words, .. } = &one.expected {
+            self.hold_list(&ListAsked::module(words));
+            let changed = generator::changed_words(&mut self.random, words);
+            self.hold_list(&ListAsked::new(changed));
+        }
+    }
+
+    /// Holds the second reading and the compiled code to what is due of a list.
+    fn hold_list(&mut self, one: &ListAsked) {
+        self.lists += 1;
+        self.list_opinions += matches!(one.due, Due::Opinion(_)) as usize;
+        match one.answer() {
+            Ok(_) => self.listed += 1,
+            Err(number) => self.reached.refusal(number),
+        }
+        let of_second = list_difference(one, None).map(|(_, what)| what);
+        let mut of_compiled = None;
+        if compiled::LINKED {
+            of_compiled = compiled_list_difference(one, &mut self.compiled);
+        }
+        let asks = || lines::asks_to_list(&one.words, None);
+        self.report_differences(of_second, of_compiled, asks);
+    }
+
+    fn report_differences(
+        &mut self,
+        of_second: Option<String>,
+        of_compiled: Option<String>,
+        asks: impl Fn() -> String,
+    ) {
         for (side, what) in [("the second reading", of_second), ("the compiled code", of_compiled)]
         {
             let Some(what) = what else { continue };
             self.differences += 1;
             if self.differences <= 5 {
-                println!("{side}: {what}\n  {}", lines::hex(&one.sheet));
+                println!("{side}: {what}\n  {}", asks());
             }
         }
     }
@@ -323,6 +490,11 @@ impl Tally {
             self.opinions,
             self.differences,
         );
+        println!(
+            "{} inputs to list, modules and words with one thing changed: {} listed, and joined \
+             again the same; {} by the second reading's opinion alone",
+            self.lists, self.listed, self.list_opinions
+        );
         println!("{}", self.sides());
         self.differences == 0
     }
@@ -335,6 +507,7 @@ pub fn run(count: usize) -> bool {
         let Some(all) = asked_of(case) else { return false };
         all.iter().for_each(|one| tally.hold(one));
     }
+    lists().iter().for_each(|one| tally.hold_list(one));
     let complete = tally.reached.report();
     tally.report(SEED) && complete
 }
@@ -374,23 +547,35 @@ pub fn slips(count: usize) -> bool {
         return false;
     }
     let Some(all) = asked(cases(count)) else { return false };
+    let to_list = lists();
     let mut silent = 0;
     for (number, &(slip, what)) in SLIPS.iter().enumerate() {
         let mut planted = Compiled::new(Some(slip));
-        let can_show: Vec<&Asked> = all.iter().filter(|one| shows(one, slip)).collect();
-        let missed = |one: &&&Asked| compiled_difference(one, &mut planted).is_none();
-        let missed = can_show.iter().filter(missed).count();
-        let (number, of) = (number + 1, can_show.len());
+        let (of, missed, asked) = match slip.of_refused_lists() {
+            None => {
+                let can_show: Vec<&Asked> = all.iter().filter(|one| shows(one, slip)).collect();
+                let missed = |one: &&&Asked| compiled_difference(one, &mut planted).is_none();
+                (can_show.len(), can_show.iter().filter(missed).count(), "sheets")
+            }
+            Some(refused) => {
+                let can_show = |one: &&ListAsked| one.answer().is_err() == refused;
+                let can_show: Vec<&ListAsked> = to_list.iter().filter(can_show).collect();
+                let missed =
+                    |one: &&&ListAsked| compiled_list_difference(one, &mut planted).is_none();
+                (can_show.len(), can_show.iter().filter(missed).count(), "inputs to list")
+            }
+        };
+        let number = number + 1;
         match missed == 0 && of > 0 {
-            true => println!("{number:2} reported on each of {of} sheets: {what}"),
+            true => println!("{number:2} reported on each of {of} {asked}: {what}"),
             false => {
                 silent += 1;
-                println!("{number:2} NOT REPORTED on {missed} of {of} sheets: {what}");
+                println!("{number:2} NOT REPORTED on {missed} of {of} {asked}: {what}");
             }
         }
     }
     println!(
-        "{} changes of the compiled code's answers planted, {} reported on every sheet",
+        "{} changes of the compiled code's answers planted, {} reported on every input",
         SLIPS.len(),
         SLIPS.len() - silent
     );
@@ -408,21 +593,32 @@ fn shows(one: &Asked, slip: Slip) -> bool {
     }
 }
 
-/// Plants each fault in turn and looks for the shortest sheet of a run that shows
-/// it; true if each is reported.
+/// Plants each fault in turn and looks for the shortest sheet of a run that shows it, or the
+/// shortest input to list; true if each is reported.
 pub fn faults(count: usize) -> bool {
     let Some(mut all) = asked(cases(count)) else { return false };
     all.sort_by_key(|a| a.sheet.len());
-    report_faults(|fault| {
-        all.iter().find(|a| difference(a, Some(fault)).is_some()).map(|a| lines::hex(&a.sheet))
+    let mut to_list = lists();
+    to_list.sort_by_key(|one| one.words.len());
+    report_faults(|fault| match fault.of_lists() {
+        false => {
+            all.iter().find(|a| difference(a, Some(fault)).is_some()).map(|a| lines::hex(&a.sheet))
+        }
+        true => to_list.iter().find_map(|one| {
+            list_difference(one, Some(fault))
+                .map(|(room, _)| lines::asks_to_list(&one.words, Some(room)))
+        }),
     })
 }
 
 /// The same with stored lines, which other programs replay.
 pub fn faults_of_lines(mut stored: Vec<Line>) -> bool {
     stored.sort_by_key(|line| line.sheet.len());
+    let is_list = |l: &Line| matches!(l.question, Question::List { .. });
+    let (to_list, sheets): (Vec<Line>, Vec<Line>) = stored.into_iter().partition(is_list);
     report_faults(|fault| {
         let wrong = |l: &&Line| lines::second_answer(&l.sheet, l.question, Some(fault)) != l.answer;
+        let stored = if fault.of_lists() { &to_list } else { &sheets };
         stored.iter().find(wrong).map(Line::asks)
     })
 }
@@ -448,7 +644,89 @@ pub fn print_lines(count: usize) -> bool {
     for one in &all {
         println!("{}", line(one));
     }
+    for one in lists() {
+        println!("{}", one.line(None));
+    }
     true
+}
+
+/// The stored lists: for each fault of lists the shortest input that shows it, in the buffer
+/// that does; then of each heading all, or some, spread evenly.
+pub fn print_lists() -> bool {
+    let by_heading = lists_by_heading();
+    let mut shortest: Vec<&ListAsked> = by_heading.iter().flat_map(|(_, all)| all).collect();
+    shortest.sort_by_key(|one| one.words.len());
+    // One line may show several faults.
+    let mut shown: Vec<(String, Vec<&str>)> = Vec::new();
+    for &(fault, what) in FAULTS.iter().filter(|(fault, _)| fault.of_lists()) {
+        let Some(line) = shortest.iter().find_map(|one| {
+            list_difference(one, Some(fault)).map(|(room, _)| one.line(Some(room)))
+        }) else {
+            continue;
+        };
+        match shown.iter_mut().find(|(other, _)| *other == line) {
+            Some((_, faults)) => faults.push(what),
+            None => shown.push((line, vec![what])),
+        }
+    }
+    for (line, faults) in shown {
+        faults.iter().for_each(|what| println!("# not so: {what}"));
+        println!("{line}");
+    }
+    for (what, all) in by_heading {
+        println!("# {what}");
+        let fitting: Vec<&ListAsked> = all.iter().filter(|one| stored_list(what, one)).collect();
+        let most = match what {
+            "headers" => 40,
+            "long instructions" => 10,
+            "two faults in one" | "modules with one thing changed" => 60,
+            _ => fitting.len(),
+        };
+        for n in 0..most.min(fitting.len()) {
+            println!("{}", fitting[n * fitting.len() / most.min(fitting.len())].line(None));
+        }
+    }
+    true
+}
+
+/// Which inputs are stored: no long ones, and of single instructions those around the counts
+/// that Declare writes, and opcodes that it does not write with three words.
+fn stored_list(what: &str, one: &ListAsked) -> bool {
+    let Some(&first) = one.words.get(5) else { return true };
+    let (opcode, count) = (first & 0xffff, (first >> 16) as usize);
+    let known = OPCODES.into_iter().find(|&(known, ..)| known == opcode);
+    match (what, known) {
+        ("one instruction", Some((_, least, longer))) => {
+            let most = least + 1 + (longer != Longer::Not) as usize;
+            (least - 1..=most).contains(&count) && one.words.len() == 5 + count
+        }
+        ("one instruction", None) => count == 3 && one.words.len() == 8 && opcode % 3 == 0,
+        _ => one.words.len() <= 160,
+    }
+}
+
+/// Whether the modules of stored lines have every opcode that Declare writes with each count
+/// that it writes: with the fewest words, and where there may be more, with one more or any
+/// longer. A list is refused with 20 elsewhere, so no count may be there on paper alone.
+pub fn counts_of_lines(stored: &[Line]) -> bool {
+    let mut seen = BTreeSet::new();
+    for line in stored {
+        if line.refused().is_none() && matches!(line.question, Question::Declare { .. }) {
+            let words: Option<Vec<u32>> =
+                line.answer.split(' ').map(|w| u32::from_str_radix(w, 16).ok()).collect();
+            seen.extend(generator::instructions(&words.unwrap_or_default()));
+        }
+    }
+    let (due, missing) = generator::counts_missing(&seen);
+    match missing.is_empty() {
+        true => println!(
+            "the stored modules have all {} opcodes that a list takes, in all {due} classes of \
+             their counts, and no other",
+            OPCODES.len()
+        ),
+        false => println!("in the stored modules: not as due: {}", missing.join("; ")),
+    }
+    missing.is_empty()
 }
 
 /// The stored sweep.
@@ -472,7 +750,7 @@ pub fn print_fresh(count: usize, seed: u64) -> bool {
     }
     println!("# {count} lines from seed {seed:#018x}");
     let mut random = Random::new(seed, PAPERS);
-    let mut printed = 0;
+    let (mut printed, mut modules) = (0, Vec::new());
     for n in 0.. {
         let Some(one) = asked_of(random_case(&mut random, n)).and_then(|mut all| all.pop()) else {
             return false;
@@ -481,10 +759,18 @@ pub fn print_fresh(count: usize, seed: u64) -> bool {
         if line.len() <= LONGEST_FRESH {
             println!("{line}");
             printed += 1;
+            if let Expected::Module { words, .. } = &one.expected {
+                modules.push(words.clone());
+            }
         }
         if printed == count {
             break;
         }
+    }
+    // Some of their modules with one thing changed, to list.
+    for module in modules.iter().step_by(FRESH_LISTS) {
+        let one = ListAsked::new(generator::changed_words(&mut random, module));
+        println!("{}", one.line(None));
     }
     true
 }
@@ -523,6 +809,7 @@ fn paper_of(sheet: &[u8]) -> usize {
 /// papers, each of whose sheets has something of that paper and of none behind it.
 pub fn print_sample() -> bool {
     let mut faults = FAULTS.to_vec();
+    faults.retain(|(fault, _)| !fault.of_lists());
     let parts = [
         (unswept(0).len(), unswept(6_000), 4),
         (halved(0).len(), halved(1_500), 1),

@@ -1,4 +1,4 @@
-//! The compiled code, called in this process: the three functions of crates/exports
+//! The compiled code, called in this process: the four functions of crates/exports
 //! as `rt staticlib exports` writes them. The driver is linked with them under
 //! `--cfg compiled`; without it there are two sides and not three.
 //!
@@ -27,6 +27,9 @@ mod calls {
     pub fn wrapped(_: &[u8], _: usize) -> u32 {
         unreachable!("{LATER}")
     }
+    pub fn list(_: &[u32], _: &mut [u32]) -> u64 {
+        unreachable!("{LATER}")
+    }
 }
 
 /// What can be changed in the compiled code's answers, one at a time.
@@ -48,6 +51,17 @@ pub enum Slip {
     Wrapped,
     NoGlobal,
     WrappedNumber,
+    ListWord,
+    ListLength,
+    ListPast,
+    ListBeside,
+    ListExact,
+    ListShort,
+    ListEmpty,
+    Listed,
+    ListNumber,
+    ListRefusedBuffer,
+    ListRefusedEmpty,
 }
 
 impl Slip {
@@ -55,6 +69,18 @@ impl Slip {
     pub fn of_refused_sheets(self) -> bool {
         use Slip::*;
         matches!(self, RefusedBuffer | RefusedEmpty | Number | CheckedNumber | WrappedNumber)
+    }
+
+    /// Whether it changes an answer to words that are listed or to words that are not; none
+    /// where it changes one to a sheet.
+    pub fn of_refused_lists(self) -> Option<bool> {
+        use Slip::*;
+        match self {
+            ListWord | ListLength | ListPast | ListBeside | ListExact | ListShort | ListEmpty
+            | Listed => Some(false),
+            ListNumber | ListRefusedBuffer | ListRefusedEmpty => Some(true),
+            _ => None,
+        }
     }
 }
 
@@ -75,6 +101,17 @@ pub const SLIPS: &[(Slip, &str)] = &[
     (Slip::Wrapped, "yes and no of the last global"),
     (Slip::NoGlobal, "no for a global past the end"),
     (Slip::WrappedNumber, "no for a refused sheet's global"),
+    (Slip::ListWord, "one bit of one word of a list"),
+    (Slip::ListLength, "the length that a list answers"),
+    (Slip::ListPast, "one bit of one word past the list"),
+    (Slip::ListBeside, "one bit of one word beside a list's buffer"),
+    (Slip::ListExact, "16 for a buffer as long as the list"),
+    (Slip::ListShort, "one bit of one word of a buffer one word shorter than the list"),
+    (Slip::ListEmpty, "a length announced for an empty buffer"),
+    (Slip::Listed, "one bit of one of the words that are listed"),
+    (Slip::ListNumber, "the number with which words are refused"),
+    (Slip::ListRefusedBuffer, "one bit of one word of the buffer that refused words are lent"),
+    (Slip::ListRefusedEmpty, "16 for refused words and an empty buffer"),
 ];
 
 /// The refusals that a buffer or an index gives beside an accepted sheet.
@@ -83,6 +120,8 @@ const NO_GLOBAL: u32 = 17;
 /// Wrapped's answers.
 const NO: u32 = 256;
 const YES: u32 = 257;
+/// What a list's length is answered behind.
+const LISTED: u64 = 256;
 /// Words on both sides of a lent buffer, which belong to nobody.
 const BESIDE: usize = 8;
 
@@ -99,12 +138,14 @@ pub struct Compiled {
     /// Words lent out, and how they were before the call.
     room: Vec<u32>,
     before: Vec<u32>,
+    /// Words to list.
+    given: Vec<u32>,
     calls: u64,
 }
 
 impl Compiled {
     pub fn new(slip: Option<Slip>) -> Self {
-        Compiled { slip, room: Vec::new(), before: Vec::new(), calls: 0 }
+        Compiled { slip, room: Vec::new(), before: Vec::new(), given: Vec::new(), calls: 0 }
     }
 
     /// How many calls were made.
@@ -116,9 +157,8 @@ impl Compiled {
         self.slip == Some(slip)
     }
 
-    /// Declare, lent a buffer of so many words in the midst of others; every word
-    /// is filled with a pattern before. None if all is as due.
-    fn declare(&mut self, sheet: &[u8], room: usize, due: Due, slips: &[Slip]) -> Option<String> {
+    /// Fills a buffer of so many words and those beside it with a pattern; how many that are.
+    fn paint(&mut self, room: usize) -> usize {
         let all = room + 2 * BESIDE;
         let seed = (self.calls as u32).wrapping_mul(0x9e37_79b9) | 1;
         let pattern = |i: usize| seed.wrapping_mul(2 * i as u32 + 1) ^ 0xa5a5_5a5a;
@@ -130,6 +170,13 @@ impl Compiled {
             self.before[i] = pattern(i);
         }
         self.room[..all].copy_from_slice(&self.before[..all]);
+        all
+    }
+
+    /// Declare, lent a buffer of so many words in the midst of others; every word
+    /// is filled with a pattern before. None if all is as due.
+    fn declare(&mut self, sheet: &[u8], room: usize, due: Due, slips: &[Slip]) -> Option<String> {
+        let all = self.paint(room);
         self.calls += 1;
         let mut answer = calls::declare(sheet, &mut self.room[BESIDE..BESIDE + room]);
         if let Some(&slip) = slips.iter().find(|s| self.has(**s)) {
@@ -202,6 +249,76 @@ impl Compiled {
         (answer != due).then(|| format!("Wrapped of {index} answers {answer}, not {due}"))
     }
 
+    /// A list into a buffer of so many words in the midst of others, as Declare's above: what
+    /// is due, or the number of a refusal. None if all is as due, and the words as they were.
+    fn list(
+        &mut self,
+        words: &[u32],
+        room: usize,
+        due: Result<&[u32], u8>,
+        slips: &[Slip],
+    ) -> Option<String> {
+        let all = self.paint(room);
+        self.given.clear();
+        self.given.extend(words);
+        self.calls += 1;
+        let mut answer = calls::list(&self.given, &mut self.room[BESIDE..BESIDE + room]);
+        let (list, due) = match due {
+            Ok(list) => (list, LISTED + list.len() as u64),
+            Err(number) => (&[][..], number as u64),
+        };
+        let length = list.len();
+        if let Some(&slip) = slips.iter().find(|s| self.has(**s)) {
+            let place = |count: usize| words.len() % count.max(1);
+            match slip {
+                Slip::ListWord => self.room[BESIDE + place(length)] ^= 1 << (words.len() % 32),
+                Slip::ListLength | Slip::ListNumber => answer ^= 1,
+                Slip::ListPast => self.room[BESIDE + length + place(room - length)] ^= 1 << 7,
+                Slip::ListBeside => self.room[BESIDE + room] ^= 1 << 31,
+                Slip::ListExact | Slip::ListRefusedEmpty => answer = SHORT,
+                Slip::ListShort | Slip::ListRefusedBuffer => self.room[BESIDE + place(room)] ^= 1,
+                Slip::ListEmpty => answer = LISTED,
+                Slip::Listed => self.given[words.len() / 2] ^= 1 << 5,
+                _ => unreachable!("no slip of a list's"),
+            }
+        }
+        if answer != due {
+            return Some(format!("lent {room} words, the list answers {answer}, not {due}"));
+        }
+        if self.given != words {
+            return Some(String::from("the words that are listed are changed"));
+        }
+        let (before, after) = (&self.before[..all], &self.room[..all]);
+        let end = BESIDE + length;
+        if after[BESIDE..end] != *list {
+            let at = after[BESIDE..].iter().zip(list).take_while(|(a, b)| a == b).count();
+            return Some(format!("the list differs from word {at} on"));
+        }
+        let kept = after[..BESIDE] == before[..BESIDE] && after[end..] == before[end..];
+        (!kept).then(|| format!("lent {room} words, a word that is not the list's is changed"))
+    }
+
+    /// How a list differs from what is due, if it does: lent a buffer that is longer, just
+    /// long enough, one short, and empty.
+    pub fn listed(&mut self, words: &[u32], list: &[u32]) -> Option<String> {
+        let length = list.len();
+        use Slip::*;
+        let longer = [ListWord, ListLength, ListPast, ListBeside, Listed];
+        self.list(words, length + 16, Ok(list), &longer)
+            .or_else(|| self.list(words, length, Ok(list), &[ListExact]))
+            .or_else(|| self.list(words, length - 1, Err(SHORT as u8), &[ListShort]))
+            .or_else(|| self.list(words, 0, Err(SHORT as u8), &[ListEmpty]))
+    }
+
+    /// The same of words that are refused: the buffers are twice as long as the words, and
+    /// empty.
+    pub fn unlisted(&mut self, words: &[u32], number: u8) -> Option<String> {
+        use Slip::*;
+        let room = 2 * words.len() + 8;
+        self.list(words, room, Err(number), &[ListRefusedBuffer, ListNumber])
+            .or_else(|| self.list(words, 0, Err(number), &[ListRefusedEmpty]))
+    }
+
     /// How the answers to an accepted sheet differ, if they do: lent a buffer that
     /// is longer by many words, just long enough, one short, one long, and empty.
     pub fn accepted(&mut self, sheet: &[u8], words: &[u32], wrapped: &[bool]) -> Option<String> {
@@ -263,5 +380,19 @@ pub fn answer(sheet: &[u8], question: Question) -> String {
             YES => lines::show_wrapped(true),
             number => format!("refused {number}"),
         },
+        Question::List { room } => {
+            let words = lines::words_of(sheet);
+            let mut list = vec![lines::UNLISTED; lines::room_to_list(&words, room)];
+            let answer = calls::list(&words, &mut list);
+            let length = answer.checked_sub(LISTED).unwrap_or(0) as usize;
+            let kept = list
+                .get(length..)
+                .is_some_and(|rest| rest.iter().all(|&word| word == lines::UNLISTED));
+            match answer {
+                _ if !kept => format!("{answer}, and a word past the list is changed"),
+                LISTED.. => lines::show_words(&list[..length]),
+                _ => format!("refused {answer}"),
+            }
+        }
     }
 }

@@ -29,6 +29,8 @@ fn main() {
         (["lines", _], Some(count)) => compare::print_lines(count),
         (["sample"], None) => compare::print_sample(),
         (["sweep"], None) => compare::print_sweep(),
+        (["lists"], None) => compare::print_lists(),
+        (["counts", files @ ..], None) if !files.is_empty() => counts_of_files(files),
         (["fresh", _, seed], Some(count)) => match number(seed) {
             Some(seed) => compare::print_fresh(count, seed),
             None => complain(NO_SEED),
@@ -54,6 +56,9 @@ const USAGE: &str = "usage:
   driver lines COUNT               the same sheets with the answers that are expected
   driver sample                    the lines of tests/vectors/sample.txt
   driver sweep                     the lines of tests/vectors/sweep.txt
+  driver lists                     the lines of tests/vectors/lists.txt
+  driver counts FILE...            whether the modules of files have every opcode that a list
+                                   takes, with each of its counts
   driver fresh COUNT SEED          COUNT random sheets, short ones, with their answers
   driver answer reference|second|compiled
                                    answers the sheets on standard input
@@ -90,10 +95,21 @@ fn read(file: &str) -> Result<Vec<lines::Line>, String> {
     }
 }
 
-fn faults_of_files(files: &[&str]) -> bool {
+fn read_all(files: &[&str]) -> Result<Vec<lines::Line>, String> {
     let lines: Result<Vec<_>, String> = files.iter().map(|file| read(file)).collect();
-    match lines {
-        Ok(lines) => compare::faults_of_lines(lines.into_iter().flatten().collect()),
+    lines.map(|lines| lines.into_iter().flatten().collect())
+}
+
+fn faults_of_files(files: &[&str]) -> bool {
+    match read_all(files) {
+        Ok(lines) => compare::faults_of_lines(lines),
+        Err(problem) => complain(&problem),
+    }
+}
+
+fn counts_of_files(files: &[&str]) -> bool {
+    match read_all(files) {
+        Ok(lines) => compare::counts_of_lines(&lines),
         Err(problem) => complain(&problem),
     }
 }

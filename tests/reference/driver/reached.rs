@@ -119,7 +119,7 @@ impl Reached {
         if self.names.len() != NAMES {
             missing.push(format!("names of kinds {:?} only", self.names));
         }
-        for number in (1..=17).filter(|n| !self.refusals.contains_key(n)) {
+        for number in (1..=20).filter(|n| !self.refusals.contains_key(n)) {
             missing.push(format!("refusal {number} never"));
         }
         let (tags, combinations) =

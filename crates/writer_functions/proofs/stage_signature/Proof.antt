@@ -9,7 +9,7 @@ use borrow.Author.Needs.{needs}
 use Rattle.spirv.specs.Sections.{splice}
 use Rattle.writer.specs.Cost.{staging}
 use Rattle.writer.specs.Held.{RoomIn}
-use Rattle.writer.proofs.Regions.{splice-length}
+use Rattle.spirv.proofs.Splices.{splice-length}
 use Rattle.writer.proofs.Staged.{waiting}
 use Rattle.writer_functions.proofs.Signatures.{HasParameters, has-none, has-more, has-all}
 use Rattle.writer_functions.proofs.stage_signature.Statement.{statement}

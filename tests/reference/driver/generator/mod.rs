@@ -1,11 +1,13 @@
 //! Sheets for the comparison, from a fixed seed: small families in full, random
-//! valid sheets, edges, and damaged sheets with the refusal they must get.
+//! valid sheets, edges, and damaged sheets with the refusal they must get; and words
+//! to list.
 
 mod damage;
 mod edges;
 mod families;
 mod functions;
 mod halves;
+mod listing;
 mod sweep;
 mod valid;
 mod values;
@@ -17,6 +19,10 @@ pub use families::families;
 use families::*;
 pub use functions::functions;
 pub use halves::halves;
+pub use listing::{
+    changed_words, counts_missing, instructions, list_by_registry, sheets_to_list, words_to_list,
+    Listing, Longer, Words, OPCODES,
+};
 pub use sweep::sweep;
 use valid::*;
 pub use valid::{aim, valid};
@@ -46,7 +52,7 @@ fn domain(sheet: &Sheet) -> Case {
 }
 
 /// How many of document 02's papers there are by now.
-pub const PAPERS: u8 = 2;
+pub const PAPERS: u8 = 3;
 
 /// The generator splitmix64. Beside its state it knows up to which paper of document 02
 /// values and records are drawn, 0 for document 01 alone: what was stored before a paper

@@ -1,5 +1,5 @@
-//! A second reading of document 01 and of document 02's papers: Check, Declare and
-//! Wrapped, written from their text and the SPIR-V Specification, not from the Rust that
+//! A second reading of document 01 and of document 02's papers: Check, Declare, Wrapped
+//! and the list, written from their text and the SPIR-V Specification, not from the Rust that
 //! they name. The comparison runs it against that Rust. It knows no hash map and keeps
 //! every instruction as data until the end.
 //!
@@ -10,11 +10,13 @@ mod check;
 mod constants;
 mod functions;
 mod globals;
+mod listing;
 mod numbers;
 mod types;
 
 use crate::faults::Fault;
 use crate::sheet::*;
+pub use listing::{join, list};
 use numbers::*;
 
 /// Why a sheet is refused, and at which record where there is one.

@@ -9,7 +9,7 @@ use borrow.Author.Needs.{needs}
 use Rattle.definition.specs.Sheet.{u16sAt}
 use Rattle.definition.specs.Rules.{idsOf}
 use Rattle.spirv.specs.Sections.{splice}
-use Rattle.writer.proofs.Regions.{splice-length}
+use Rattle.spirv.proofs.Splices.{splice-length}
 use Rattle.writer.specs.Steps.{idIn}
 use Rattle.writer.proofs.Staged.{waiting, staged}
 use Rattle.writer_constants.proofs.Staging.{idsIn, ids-held, parts-length, parts-none, parts-more}

@@ -6,7 +6,7 @@ use native.Mathlib.Omega.{arith}
 use lib.ListN.{length, replicate}
 use borrow.Author.Needs.{needs}
 use Rattle.spirv.specs.Sections.{splice}
-use Rattle.writer.proofs.Regions.{splice-length, splice-none}
+use Rattle.spirv.proofs.Splices.{splice-length, splice-none}
 use Rattle.writer.proofs.Staged.{waiting, staged}
 use Rattle.writer_constants.proofs.Staging.{same-length as count, splat-more}
 use Rattle.writer_constants.proofs.composites.stage_splat.Statement.{statement}

@@ -1,0 +1,4 @@
+pub mod Layouts
+pub mod OneList
+pub mod Walks
+pub mod Promises
