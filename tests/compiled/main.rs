@@ -257,14 +257,7 @@ impl Replay<'_> {
                 seen ^= 1;
             }
             hold(&format!("the length in {room} words"), seen, LISTED + due.len() as u64)?;
-            let listed = &mut self.words.last_words(room)[..due.len()];
-            if self.fault.is("list-word") {
-                listed[due.len() - 1] ^= 1;
-            }
-            self.tally.words += due.len();
-            for (index, (seen, due)) in listed.iter().zip(due).enumerate() {
-                hold(&format!("word {index} of a list"), *seen as u64, *due as u64)?;
-            }
+            self.hold_words(room, due, "list-word")?;
         }
         for room in [due.len() - 1, 0] {
             self.list_refuses(room, 16)?;
@@ -317,12 +310,17 @@ impl Replay<'_> {
         }
         hold(&format!("the count in {room} words"), seen & 0xffff_ffff, due.len() as u64)?;
         hold(&format!("the bound in {room} words"), seen >> 32, due[3] as u64)?;
-        let written = &mut self.words.last_words(room)[..due.len()];
-        if self.fault.is("word") {
-            written[due.len() - 1] ^= 1;
+        self.hold_words(room, due, "word")
+    }
+
+    /// The words at the front of the buffer of so many words are those that are due.
+    fn hold_words(&mut self, room: usize, due: &[u32], fault: &str) -> Compared {
+        let seen = &mut self.words.last_words(room)[..due.len()];
+        if self.fault.is(fault) {
+            seen[due.len() - 1] ^= 1;
         }
         self.tally.words += due.len();
-        for (index, (seen, due)) in written.iter().zip(due).enumerate() {
+        for (index, (seen, due)) in seen.iter().zip(due).enumerate() {
             hold(&format!("word {index} of {room}"), *seen as u64, *due as u64)?;
         }
         Ok(())

@@ -161,6 +161,16 @@ fn list_difference(one: &ListAsked, fault: Option<Fault>) -> Option<(usize, Stri
     })
 }
 
+/// Where the list is the second reading's own opinion, what it joins to still has to be the words.
+fn join_difference(one: &ListAsked) -> Option<String> {
+    match &one.due {
+        Due::Opinion(Ok(list)) if second::join(list, None) != one.words => {
+            Some(String::from("joined again, its own list is something else"))
+        }
+        _ => None,
+    }
+}
+
 fn compiled_list_difference(one: &ListAsked, compiled: &mut Compiled) -> Option<String> {
     match one.answer() {
         Ok(list) => compiled.listed(&one.words, list),
@@ -439,7 +449,8 @@ impl Tally {
             Ok(_) => self.listed += 1,
             Err(number) => self.reached.refusal(number),
         }
-        let of_second = list_difference(one, None).map(|(_, what)| what);
+        let of_second =
+            list_difference(one, None).map(|(_, what)| what).or_else(|| join_difference(one));
         let mut of_compiled = None;
         if compiled::LINKED {
             of_compiled = compiled_list_difference(one, &mut self.compiled);
