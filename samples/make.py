@@ -381,6 +381,40 @@ SAMPLES["routines"] = (
     ),
 )
 
+# Paper 4: the table of strides, a struct with a matrix for each of its nine numbers; two
+# rows of the widths 2, 4 and 8, then three, then four. A float is declared with the first
+# matrix of its width.
+SAMPLES["strides"] = (
+    sheet(
+        *(matrix(2, rows, width) for rows in (2, 3, 4) for width in (2, 4, 8)),
+        struct(576, *(member(n, 64 * n) for n in range(9))),
+    ),
+    module(
+        23,
+        (CAPABILITY, 9),
+        (CAPABILITY, 10),
+        *(
+            words
+            for n, stride in enumerate((4, 8, 16, 8, 16, 32, 8, 16, 32))
+            for words in (
+                (MEMBER_DECORATE, 22, n, OFFSET, 64 * n),
+                (MEMBER_DECORATE, 22, n, COL_MAJOR),
+                (MEMBER_DECORATE, 22, n, MATRIX_STRIDE, stride),
+            )
+        ),
+        *((TYPE_FLOAT, 3, 16), (TYPE_VECTOR, 2, 3, 2), (TYPE_MATRIX, 1, 2, 2)),
+        *((TYPE_FLOAT, 6, 32), (TYPE_VECTOR, 5, 6, 2), (TYPE_MATRIX, 4, 5, 2)),
+        *((TYPE_FLOAT, 9, 64), (TYPE_VECTOR, 8, 9, 2), (TYPE_MATRIX, 7, 8, 2)),
+        *((TYPE_VECTOR, 11, 3, 3), (TYPE_MATRIX, 10, 11, 2)),
+        *((TYPE_VECTOR, 13, 6, 3), (TYPE_MATRIX, 12, 13, 2)),
+        *((TYPE_VECTOR, 15, 9, 3), (TYPE_MATRIX, 14, 15, 2)),
+        *((TYPE_VECTOR, 17, 3, 4), (TYPE_MATRIX, 16, 17, 2)),
+        *((TYPE_VECTOR, 19, 6, 4), (TYPE_MATRIX, 18, 19, 2)),
+        *((TYPE_VECTOR, 21, 9, 4), (TYPE_MATRIX, 20, 21, 2)),
+        (TYPE_STRUCT, 22, 1, 4, 7, 10, 12, 14, 16, 18, 20),
+    ),
+)
+
 # A camera tunnel's tables as a warehouse might draw them: frames and chutes in a
 # uniform buffer, the chute log in a storage buffer, pictures by binding array.
 TUNNEL = sheet(

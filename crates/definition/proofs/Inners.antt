@@ -16,7 +16,7 @@ use Rattle.definition.specs.Sheet.{Scalar, Vector, Matrix, Atomic, Point
 use Rattle.definition.specs.Tests.{innerTypes}
 use Rattle.definition.specs.Shapes.{Kind, Count, Shape, Format, storageClass, kindOf, formats, formatAt, floating, dimOf, imageOf, countOf, shapeOf, opcodeOf}
 use Rattle.definition.specs.Shapes.{sint, uint, float, bool, one, many, valuePointer}
-use Rattle.definition.specs.Rules.{innerAt, columnStride, matrixStride, elementOf}
+use Rattle.definition.specs.Rules.{innerAt, columnStride, hasStride, matrixStride, elementOf}
 use Rattle.definition.specs.WellDeclared.{plainType, plainEntry}
 use Rattle.definition.proofs.ByShape.{plain-scalar}
 use Rattle.definition.proofs.Truth.{both-true, every-getD, pick-le, pick-for}
@@ -176,7 +176,7 @@ stride-small r w h = stride-le (eqb r 2) w h
 matrix-small : (i : TypeInner) → GoodInner i → SmallStride (matrixStride i)
 matrix-small (Scalar k w) g = tt
 matrix-small (Vector n k w) g = tt
-matrix-small (Matrix c r w) g = stride-small r w (g .2)
+matrix-small (Matrix c r w) g = pick-for SmallStride (hasStride r w) _ _ (stride-small r w (g .2)) tt
 matrix-small (Atomic k w) g = tt
 matrix-small (Pointer b s a) g = tt
 matrix-small (ValuePointer n k w s a) g = tt

@@ -23,3 +23,4 @@ pub mod WrongModules
 pub mod Words
 pub mod Answers
 pub mod Relisting
+pub mod Strides

@@ -59,6 +59,7 @@ below-in n xs t x m = ltb→lt x n (every-one (λ (y : ℕ). ltb y n) xs t x m)
 pub record Passed (n : Seen) (r : Record) (e : Entry) (end : ℕ) : Type 0 where
   pub whole : end ≡ length (r .body)
   pub names : T (every nameFits (namesOf e))
+  pub values : T (valuesFit e)
   pub types : (t : ℕ) → List·Memᴰ t (typesNamed e) → t < length (n .types)
   pub constants : (c : ℕ) → List·Memᴰ c (constantsNamed e) → c < length (n .constants)
 
@@ -74,6 +75,7 @@ entry-passed n r e end h =
     record {
       whole = eqb→eq end (length (r .body)) (b .0);
       names = c .0;
+      values = d .0;
       types = below-in (length (n .types)) (typesNamed e) (g .0);
       constants = below-in (length (n .constants)) (constantsNamed e) (g .1);
     }

@@ -176,31 +176,40 @@ under-bytes : (s : List ℕ) → IsBytes s → Under 255 s
 under-bytes [] h = tt
 under-bytes (x ∷ xs) h = (omega (arith, h x (List·Memᴰ·head refl)), under-bytes xs (λ b m. h b (List·Memᴰ·tail m)))
 
+-- its header passed, and its records, which came to that progress with a bound that is not too high
+pub record Ran (s : List ℕ) (p : Progress) : Type 0 where
+  pub header : headerTest s ≡ 0
+  pub all : records recordTest (declareRecord (optionsOf (flagsOf s))) (length s) (drop headerLength s) (begin (startOf s)) ≡ fit p
+  pub low : boundOf (p .state) ≤ boundMost
+
+pub fit-ran : (s : List ℕ) (p : Progress) → judged s ≡ fit p → Ran s p
+unfolding judged
+fit-ran s p e = outer (headerTest s) refl (records recordTest (declareRecord (optionsOf (flagsOf s))) (length s) (drop headerLength s) (begin (startOf s))) refl e
+  where
+    bound : (q : Progress) (b : Bool) → leb (boundOf (q .state)) boundMost ≡ b → pick b (fit q) (refused 15) ≡ fit p → ((boundOf (q .state) ≤ boundMost) → Ran s q) → Ran s p
+    bound q true l f g =
+        let x : q ≡ p = cc in
+        subst (Ran s) x (g (leb→le (boundOf (q .state)) boundMost (rw l tt)))
+    bound q false l f g = let z : _≡_ {A = ℕ} 0 1 = cc in absurd (omega arith)
+
+    outer : (n : ℕ) → headerTest s ≡ n → (j : Judged Progress) → records recordTest (declareRecord (optionsOf (flagsOf s))) (length s) (drop headerLength s) (begin (startOf s)) ≡ j → boundTest (judge n j) ≡ fit p → Ran s p
+    outer zero t (refused m) f g = let z : _≡_ {A = ℕ} 0 1 = cc in absurd (omega arith)
+    outer zero t (fit q) f g = bound q (leb (boundOf (q .state)) boundMost) refl g (λ l. record { header = t; all = f; low = l })
+    outer (suc n) t j f g = let z : _≡_ {A = ℕ} 0 1 = cc in absurd (omega arith)
+
 pub record FitSheet (s : List ℕ) (p : Progress) : Type 0 where
   pub good : Good (startOf s) p
   pub low : boundOf (p .state) ≤ boundMost
 
 pub fit-sheet : (s : List ℕ) → IsBytes s → (p : Progress) → judged s ≡ fit p → FitSheet s p
-unfolding judged headerTest
-fit-sheet s bytes p e = outer (headerTest s) refl (records recordTest (declareRecord (optionsOf (flagsOf s))) (length s) (drop headerLength s) (begin (startOf s))) refl e
-  where
-    size : headerTest s ≡ 0 → length s ≤ 16384
-    size t =
-        let a = unless-passed (within sheetLeast sheetMost (length s)) 0 _ t in
-        leb→le (length s) sheetMost (both-true (leb sheetLeast (length s)) (leb (length s) sheetMost) (a .0) .1)
-
-    all : headerTest s ≡ 0 → (q : Progress) → records recordTest (declareRecord (optionsOf (flagsOf s))) (length s) (drop headerLength s) (begin (startOf s)) ≡ fit q → Good (startOf s) q
-    all t q f =
-        records-kept recordTest (declareRecord (optionsOf (flagsOf s))) (Good (startOf s)) Left left-behind (left-kept (startOf s) (optionsOf (flagsOf s))) (length s) (drop headerLength s) (begin (startOf s)) q
-        (record { bytes = under-drop 255 headerLength s (under-bytes s bytes); few = omega (arith, length-drop headerLength s, size t) }) (begin-good (startOf s)) f
-
-    bound : (q : Progress) (b : Bool) → leb (boundOf (q .state)) boundMost ≡ b → pick b (fit q) (refused 15) ≡ fit p → Good (startOf s) q → FitSheet s p
-    bound q true l f g =
-        let x : q ≡ p = cc in
-        subst (FitSheet s) x (record { good = g; low = leb→le (boundOf (q .state)) boundMost (rw l tt) })
-    bound q false l f g = let z : _≡_ {A = ℕ} 0 1 = cc in absurd (omega arith)
-
-    outer : (n : ℕ) → headerTest s ≡ n → (j : Judged Progress) → records recordTest (declareRecord (optionsOf (flagsOf s))) (length s) (drop headerLength s) (begin (startOf s)) ≡ j → boundTest (judge n j) ≡ fit p → FitSheet s p
-    outer zero t (refused m) f g = let z : _≡_ {A = ℕ} 0 1 = cc in absurd (omega arith)
-    outer zero t (fit q) f g = bound q (leb (boundOf (q .state)) boundMost) refl g (all t q f)
-    outer (suc n) t j f g = let z : _≡_ {A = ℕ} 0 1 = cc in absurd (omega arith)
+unfolding headerTest
+fit-sheet s bytes p e =
+    let r = fit-ran s p e in
+    let a = unless-passed (within sheetLeast sheetMost (length s)) 0 _ (r .header) in
+    let size : length s ≤ 16384 = leb→le (length s) sheetMost (both-true (leb sheetLeast (length s)) (leb (length s) sheetMost) (a .0) .1) in
+    record {
+      good =
+          records-kept recordTest (declareRecord (optionsOf (flagsOf s))) (Good (startOf s)) Left left-behind (left-kept (startOf s) (optionsOf (flagsOf s))) (length s) (drop headerLength s) (begin (startOf s)) p
+          (record { bytes = under-drop 255 headerLength s (under-bytes s bytes); few = omega (arith, length-drop headerLength s) }) (begin-good (startOf s)) (r .all);
+      low = r .low;
+    }

@@ -18,4 +18,5 @@ pub mod Reader
 pub mod ReadTypes
 pub mod WellDeclared
 pub mod Listing
+pub mod Strides
 pub mod Examples

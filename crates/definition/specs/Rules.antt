@@ -13,7 +13,7 @@ use Rattle.definition.specs.Instructions.{Instruction, name, memberName,
 use Rattle.definition.specs.Sheet.{Options, Member, TypeInner, TypeEntry, Function, Expression, Global, Remap, Entry, privateSpace, workGroupSpace, uniformSpace, storageSpace, pushConstantSpace}
 use Rattle.definition.specs.Sheet.{Scalar, Vector, Matrix, Atomic, Pointer, ValuePointer, Array, Struct, Image, Sampler, AccelerationStructure, RayQuery, BindingArray}
 use Rattle.definition.specs.Sheet.{Value, Alias, ZeroValue, Compose, Splat, available, remap, type, function, constant, global}
-use Rattle.definition.specs.Tests.{Seen}
+use Rattle.definition.specs.Tests.{Seen, sizeFits, floatWidth}
 use Rattle.definition.specs.Shapes.{Kind, Key, shapeOf, storageClass, kindOf}
 use Rattle.definition.specs.Shapes.{Shape, bool, scalar, vector, pointer, bindingPointer, entry, shape}
 use Rattle.definition.specs.State.{Composite, function as functionKey, void, sameComposite, Valued, State, Got, got, takeId, enter, withConstants, annotate, label, declareAlone, lookup, idOf, entryId, entryIds}
@@ -35,11 +35,15 @@ columnAlignment rows = pick (eqb rows 2) 2 4
 abbrev pub columnStride : ℕ → ℕ → ℕ
 columnStride rows width = columnAlignment rows * width
 
--- the column stride of a matrix
+-- "three row counts by three widths" (paper 4), which are those that test 10 lets through
+abbrev pub hasStride : ℕ → ℕ → Bool
+hasStride rows width = sizeFits rows && floatWidth width
+
+-- the column stride of a matrix; one that is not among the nine has none, and is in no sheet that Check fits
 abbrev pub matrixStride : TypeInner → Option ℕ
 matrixStride (Scalar k w) = none
 matrixStride (Vector n k w) = none
-matrixStride (Matrix c r w) = some (columnStride r w)
+matrixStride (Matrix c r w) = pick (hasStride r w) (some (columnStride r w)) none
 matrixStride (Atomic k w) = none
 matrixStride (Pointer b s a) = none
 matrixStride (ValuePointer n k w s a) = none

@@ -7,7 +7,7 @@ mod functions;
 mod globals;
 mod members;
 mod types;
-mod values;
+pub mod values;
 
 ghost use mathlib.Core.Path.{_≡_};
 ghost use Rattle.definition.specs.Bytes.{nameEnd};

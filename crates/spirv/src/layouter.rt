@@ -1,28 +1,18 @@
-// Alignments, as far as a matrix's stride needs them.
+// How far apart a matrix's columns are, in bytes. The Rust multiplies an `Alignment` by the width; here the nine products are held in
+// a table.
 ghost use mathlib.Core.Path.{_≡_};
-ghost use Prim.Native.Nat.{_<_};
-ghost use Rattle.definition.specs.Rules.{columnAlignment, columnStride};
+ghost use mathlib.Core.Bool.{true};
+ghost use Rattle.definition.specs.Rules.{columnStride, hasStride};
 
-// A power of two.
-pub struct Alignment(pub u32);
+// A line for two, for three and for four rows, in it a number for the widths 2, 4 and 8.
+const STRIDES: [[u32; 3]; 3] = [[4, 8, 16], [8, 16, 32], [8, 16, 32]];
 
-impl Alignment {
-    // Of a vector, in components: three are aligned as four.
-    pub fn from(size: u32) -> Self
-        ensures { λ r. ⌜ r .0 ≡ columnAlignment size ⌝ }
-    {
-        if size == 2 {
-            return Alignment(2);
-        }
-        Alignment(4)
-    }
-}
-
-// How far apart a matrix's columns are, in bytes; for any width that a byte of the sheet can have.
-pub fn matrix_stride(rows: u32, width: u32) -> u32
-    requires { ⌜ width < 256 ⌝ }
+// The stride of so many rows of a width. A width's place in a line is how often 4 goes into it: 0, 1 and 2 times.
+pub fn matrix_stride(rows: u8, width: u8) -> u32
+    requires { ⌜ hasStride rows width ≡ true ⌝ }
     ensures { λ r. ⌜ r ≡ columnStride rows width ⌝ }
 {
-    let alignment = Alignment::from(rows);
-    alignment.0 * width
+    let line = (rows - 2) as usize;
+    let place = (width / 4) as usize;
+    STRIDES[line][place]
 }

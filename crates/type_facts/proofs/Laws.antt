@@ -10,7 +10,7 @@ use Rattle.definition.specs.Choice.{pick, among}
 use Rattle.definition.specs.Bytes.{u8At}
 use Rattle.definition.specs.Sheet.{Fields, TypeEntry, TypeInner, Global, membersAt, typeFields, uniformSpace, storageSpace, pushConstantSpace}
 use Rattle.definition.specs.Sheet.{Scalar, Vector, Matrix, Atomic, Pointer, ValuePointer, Array, Struct, Image, Sampler, AccelerationStructure, RayQuery, BindingArray}
-use Rattle.definition.specs.Rules.{innerAt, matrixStride, elementOf, isDynamic, wrapsType, needsWrapper, imageAccess, bindingBase}
+use Rattle.definition.specs.Rules.{innerAt, columnStride, hasStride, matrixStride, elementOf, isDynamic, wrapsType, needsWrapper, imageAccess, bindingBase}
 use Rattle.definition.specs.Unfit.{isPointer}
 use Rattle.definition.proofs.Truth.{pick-for}
 use Rattle.kinds.specs.Numbers.{spaceNumber}
@@ -18,6 +18,7 @@ use Rattle.kinds.specs.declared.AddressSpace.{AddressSpace}
 use Rattle.kinds.specs.declared.AddressSpace.the-variants.{Function, Private, WorkGroup, Uniform, Storage, Handle, PushConstant}
 use Rattle.type_facts.specs.declared.facets.Facet.{Facet}
 use Rattle.type_facts.specs.declared.facets.Facet.the-variants.{StorageImage, Other}
+use Rattle.type_facts.specs.declared.Number.the-variants.{Nothing as NoNumber, Of as SomeNumber}
 use Rattle.type_facts.specs.Facets.{facetOf, imageFacet, dynamicIn, strideIn, accessIn, baseIn, elementIn, pointerIn, wrapsIn, wrapsSpace, numberOf, byteOf, indexOf}
 
 -- ---- facets: a line a type
@@ -46,7 +47,11 @@ dynamic (BindingArray b n) = refl
 pub stride : (i : TypeInner) → matrixStride i ≡ numberOf (strideIn (facetOf i))
 stride (Scalar k w) = refl
 stride (Vector n k w) = refl
-stride (Matrix c r w) = refl
+stride (Matrix c r w) = go (hasStride r w)
+  where
+    go : (b : Bool) → pick b (some (columnStride r w)) none ≡ numberOf (pick b (SomeNumber (columnStride r w)) NoNumber)
+    go true = refl
+    go false = refl
 stride (Atomic k w) = refl
 stride (Pointer b s a) = refl
 stride (ValuePointer n k w s a) = refl

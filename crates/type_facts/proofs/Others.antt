@@ -16,7 +16,7 @@ use Rattle.type_facts.proofs.facets.Facet.{the-type}
 
 -- only a Matrix has a stride
 pub no-stride : (f : Facet) → OneOf (1 ∷ 2 ∷ 3 ∷ 4 ∷ 5 ∷ 6 ∷ []) (tagOf the-type f) → NoNumber ≡ strideIn f
-no-stride (Matrix d) h = absurd (miss (1 ∷ 2 ∷ 3 ∷ 4 ∷ 5 ∷ 6 ∷ []) 0 tt h)
+no-stride (Matrix r w) h = absurd (miss (1 ∷ 2 ∷ 3 ∷ 4 ∷ 5 ∷ 6 ∷ []) 0 tt h)
 no-stride (Array b d) h = refl
 no-stride Struct h = refl
 no-stride (StorageImage a) h = refl
@@ -26,7 +26,7 @@ no-stride Other h = refl
 
 -- only an Array has elements
 pub no-element : (f : Facet) → OneOf (0 ∷ 2 ∷ 3 ∷ 4 ∷ 5 ∷ 6 ∷ []) (tagOf the-type f) → NoBase ≡ elementIn f
-no-element (Matrix d) h = refl
+no-element (Matrix r w) h = refl
 no-element (Array b d) h = absurd (miss (0 ∷ 2 ∷ 3 ∷ 4 ∷ 5 ∷ 6 ∷ []) 1 tt h)
 no-element Struct h = refl
 no-element (StorageImage a) h = refl
@@ -36,7 +36,7 @@ no-element Other h = refl
 
 -- only a StorageImage has an access
 pub no-access : (f : Facet) → OneOf (0 ∷ 1 ∷ 2 ∷ 4 ∷ 5 ∷ 6 ∷ []) (tagOf the-type f) → NoAccess ≡ accessIn f
-no-access (Matrix d) h = refl
+no-access (Matrix r w) h = refl
 no-access (Array b d) h = refl
 no-access Struct h = refl
 no-access (StorageImage a) h = absurd (miss (0 ∷ 1 ∷ 2 ∷ 4 ∷ 5 ∷ 6 ∷ []) 3 tt h)
@@ -46,7 +46,7 @@ no-access Other h = refl
 
 -- only a BindingArray has a base
 pub no-base : (f : Facet) → OneOf (0 ∷ 1 ∷ 2 ∷ 3 ∷ 4 ∷ 6 ∷ []) (tagOf the-type f) → NoBase ≡ baseIn f
-no-base (Matrix d) h = refl
+no-base (Matrix r w) h = refl
 no-base (Array b d) h = refl
 no-base Struct h = refl
 no-base (StorageImage a) h = refl
@@ -56,7 +56,7 @@ no-base Other h = refl
 
 -- all but a Struct and a BindingArray are wrapped
 pub wrapped : (ts : List TypeEntry) (ms : List Member) (f : Facet) → OneOf (0 ∷ 1 ∷ 3 ∷ 4 ∷ 6 ∷ []) (tagOf the-type f) → true ≡ wrapsIn ts f ms
-wrapped ts ms (Matrix d) h = refl
+wrapped ts ms (Matrix r w) h = refl
 wrapped ts ms (Array b d) h = refl
 wrapped ts ms Struct h = absurd (miss (0 ∷ 1 ∷ 3 ∷ 4 ∷ 6 ∷ []) 2 tt h)
 wrapped ts ms (StorageImage a) h = refl

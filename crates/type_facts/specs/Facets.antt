@@ -5,7 +5,7 @@ use mathlib.Core.List.{List}
 use mathlib.Core.Option.{Option, some, none}
 use lib.Dec.{eqb}
 use Rattle.definition.specs.Choice.{pick}
-use Rattle.definition.specs.Rules.{columnStride, endsDynamic}
+use Rattle.definition.specs.Rules.{columnStride, hasStride, endsDynamic}
 use Rattle.definition.specs.Sheet as Defined
 use Rattle.kinds.specs.declared.AddressSpace.{AddressSpace}
 use Rattle.kinds.specs.declared.AddressSpace.the-variants.{Function, Private, WorkGroup, Uniform, Storage, Handle, PushConstant}
@@ -43,7 +43,7 @@ imageFacet class access = pick (eqb class 2) (StorageImage access) Other
 abbrev pub facetOf : Defined.TypeInner → Facet
 facetOf (Defined.Scalar k w) = Other
 facetOf (Defined.Vector n k w) = Other
-facetOf (Defined.Matrix c r w) = Matrix (columnStride r w)
+facetOf (Defined.Matrix c r w) = Matrix r w
 facetOf (Defined.Atomic k w) = Other
 facetOf (Defined.Pointer b s a) = Pointer
 facetOf (Defined.ValuePointer n k w s a) = Pointer
@@ -59,7 +59,7 @@ facetOf (Defined.BindingArray b n) = BindingArray b
 
 -- whether it is a dynamic array
 abbrev pub dynamicIn : Facet → Bool
-dynamicIn (Matrix d) = false
+dynamicIn (Matrix r w) = false
 dynamicIn (Array b d) = d
 dynamicIn Struct = false
 dynamicIn (StorageImage a) = false
@@ -67,9 +67,13 @@ dynamicIn Pointer = false
 dynamicIn (BindingArray b) = false
 dynamicIn Other = false
 
+-- the column stride of so many rows of a width
+abbrev pub strideOf : ℕ → ℕ → Number
+strideOf rows width = pick (hasStride rows width) (SomeNumber (columnStride rows width)) NoNumber
+
 -- the column stride of a matrix
 abbrev pub strideIn : Facet → Number
-strideIn (Matrix d) = SomeNumber d
+strideIn (Matrix r w) = strideOf r w
 strideIn (Array b d) = NoNumber
 strideIn Struct = NoNumber
 strideIn (StorageImage a) = NoNumber
@@ -79,7 +83,7 @@ strideIn Other = NoNumber
 
 -- the access of a storage image
 abbrev pub accessIn : Facet → Access
-accessIn (Matrix d) = NoAccess
+accessIn (Matrix r w) = NoAccess
 accessIn (Array b d) = NoAccess
 accessIn Struct = NoAccess
 accessIn (StorageImage a) = SomeAccess a
@@ -89,7 +93,7 @@ accessIn Other = NoAccess
 
 -- the base of a BindingArray
 abbrev pub baseIn : Facet → Base
-baseIn (Matrix d) = NoBase
+baseIn (Matrix r w) = NoBase
 baseIn (Array b d) = NoBase
 baseIn Struct = NoBase
 baseIn (StorageImage a) = NoBase
@@ -99,7 +103,7 @@ baseIn Other = NoBase
 
 -- the base of an Array
 abbrev pub elementIn : Facet → Base
-elementIn (Matrix d) = NoBase
+elementIn (Matrix r w) = NoBase
 elementIn (Array b d) = SomeBase b
 elementIn Struct = NoBase
 elementIn (StorageImage a) = NoBase
@@ -109,7 +113,7 @@ elementIn Other = NoBase
 
 -- whether it is a Pointer or a ValuePointer
 abbrev pub pointerIn : Facet → Bool
-pointerIn (Matrix d) = false
+pointerIn (Matrix r w) = false
 pointerIn (Array b d) = false
 pointerIn Struct = false
 pointerIn (StorageImage a) = false
@@ -119,7 +123,7 @@ pointerIn Other = false
 
 -- whether it is wrapped, a struct by its members
 abbrev pub wrapsIn : List Defined.TypeEntry → Facet → List Defined.Member → Bool
-wrapsIn ts (Matrix d) ms = true
+wrapsIn ts (Matrix r w) ms = true
 wrapsIn ts (Array b d) ms = true
 wrapsIn ts Struct ms = not (endsDynamic ts ms)
 wrapsIn ts (StorageImage a) ms = true

@@ -5,6 +5,8 @@
 use crate::Access;
 use crate::Base;
 use crate::Number;
+use sheet_fields::values::float_width;
+use sheet_fields::values::size_fits;
 use spirv::layouter::matrix_stride;
 ghost use mathlib.Core.Path.{_≡_};
 ghost use Prim.Native.Nat.{_≤_};
@@ -13,11 +15,11 @@ ghost use Rattle.definition.specs.Bytes.{nameEnd};
 ghost use Rattle.definition.specs.Sheet.{typeFields};
 ghost use Rattle.definition.specs.Rules.{innerAt};
 ghost use Rattle.records.specs.Places.{typesFrom};
-ghost use Rattle.type_facts.specs.Facets.{facetOf, imageFacet, dynamicIn, strideIn, elementIn, accessIn, baseIn, pointerIn};
+ghost use Rattle.type_facts.specs.Facets.{facetOf, imageFacet, dynamicIn, strideOf, strideIn, elementIn, accessIn, baseIn, pointerIn};
 
 // A type as far as the rules ask of it.
 pub enum Facet {
-    Matrix { stride: u32 },
+    Matrix { rows: u8, width: u8 },
     Array { base: u16, dynamic: bool },
     Struct,
     StorageImage { access: u8 },
@@ -46,10 +48,8 @@ pub fn facet_of(tag: u8, body: &[u8]) -> Facet
         16 => Facet::Other,
         17 => Facet::Other,
         18 => Facet::Matrix {
-            stride: matrix_stride(
-                fields::u8_at(body, at + 1) as u32,
-                fields::u8_at(body, at + 2) as u32,
-            ),
+            rows: fields::u8_at(body, at + 1),
+            width: fields::u8_at(body, at + 2),
         },
         19 => Facet::Other,
         20 => Facet::Pointer,
@@ -89,7 +89,7 @@ pub fn dynamic_in(facet: Facet) -> bool
     ensures { λ r. ⌜ r ≡ dynamicIn facet ⌝ }
 {
     match facet {
-        Facet::Matrix { stride: _ } => false,
+        Facet::Matrix { rows: _, width: _ } => false,
         Facet::Array { base: _, dynamic } => dynamic,
         Facet::Struct => false,
         Facet::StorageImage { access: _ } => false,
@@ -99,14 +99,27 @@ pub fn dynamic_in(facet: Facet) -> bool
     }
 }
 
+// The column stride of so many rows of a width. A matrix that test 10 would refuse has none, here as in the definition.
+fn stride_of(rows: u8, width: u8) -> Number
+    ensures { λ r. ⌜ r ≡ strideOf rows width ⌝ }
+{
+    if !size_fits(rows) {
+        return Number::Nothing;
+    }
+    if !float_width(width) {
+        return Number::Nothing;
+    }
+    Number::Of(matrix_stride(rows, width))
+}
+
 // The column stride of a matrix.
 pub fn stride_in(facet: Facet) -> Number
     ensures { λ r. ⌜ r ≡ strideIn facet ⌝ }
 {
-    let Facet::Matrix { stride } = facet else {
+    let Facet::Matrix { rows, width } = facet else {
         return Number::Nothing;
     };
-    Number::Of(stride)
+    stride_of(rows, width)
 }
 
 // The access of a storage image.
@@ -144,7 +157,7 @@ pub fn pointer_in(facet: Facet) -> bool
     ensures { λ r. ⌜ r ≡ pointerIn facet ⌝ }
 {
     match facet {
-        Facet::Matrix { stride: _ } => false,
+        Facet::Matrix { rows: _, width: _ } => false,
         Facet::Array {
             base: _,
             dynamic: _,

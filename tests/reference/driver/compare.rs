@@ -201,12 +201,13 @@ fn end_of_record(sheet: &[u8], index: usize) -> usize {
 }
 
 /// Every case of a run: the sweep, families, edges and `count` random ones of document
-/// 01's, then those of paper 1 and of paper 2.
+/// 01's, then those of paper 1, of paper 2 and of paper 4.
 fn cases(count: usize) -> Vec<Case> {
     let mut cases = swept();
     cases.extend(unswept(count));
     cases.extend(halved(count));
     cases.extend(with_functions(count));
+    cases.extend(generator::strides());
     cases
 }
 

@@ -258,11 +258,24 @@ faults! {
     ListShortWritten: "a 16 leaves as much of the list as there is room for",
     ListPartLeft: "a 19 or 20 leaves what was listed before it",
     ListFrontLeft: "an 18 leaves the header words",
+    // Paper 4.
+    Stride2Of2: "the stride of two rows of width 2 is 4 bytes too long",
+    Stride2Of4: "the stride of two rows of width 4 is 4 bytes too long",
+    Stride2Of8: "the stride of two rows of width 8 is 4 bytes too long",
+    Stride3Of2: "the stride of three rows of width 2 is 4 bytes too long",
+    Stride3Of4: "the stride of three rows of width 4 is 4 bytes too long",
+    Stride3Of8: "the stride of three rows of width 8 is 4 bytes too long",
+    Stride4Of2: "the stride of four rows of width 2 is 4 bytes too long",
+    Stride4Of4: "the stride of four rows of width 4 is 4 bytes too long",
+    Stride4Of8: "the stride of four rows of width 8 is 4 bytes too long",
+    StridesExchanged: "the strides of four rows of the widths 4 and 8 change places",
+    StrideTableByColumns: "the table of strides is read by columns",
 }
 
 impl Fault {
     /// Whether it is one of paper 3's, which lists of words show and sheets do not.
     pub fn of_lists(self) -> bool {
-        self as usize >= Fault::ListWithoutFront as usize
+        (Fault::ListWithoutFront as usize..=Fault::ListFrontLeft as usize)
+            .contains(&(self as usize))
     }
 }

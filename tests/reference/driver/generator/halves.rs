@@ -50,31 +50,12 @@ pub fn halves(random: &mut Random) -> Vec<Case> {
             cases.push(sheet(chunk.iter().cloned().map(unnamed).collect()));
         }
     }
-    cases.extend(members());
+    cases.extend(strides::members(HALF.1));
     let mut globals = global_types(HALF.1);
     globals.retain(|types| types.iter().any(Inner::is_half));
     cases.extend(twins(&globals));
     cases.extend(every_global(&globals));
     cases.extend(constants());
-    cases
-}
-
-/// Matrices of every size as members, alone and under one and two arrays.
-fn members() -> Vec<Case> {
-    let mut cases = Vec::new();
-    for columns in 2..=4 {
-        for rows in 2..=4 {
-            let records = vec![
-                unnamed(Inner::Matrix { columns, rows, width: HALF.1 }),
-                unnamed(Inner::Array { base: 0, size: 3, stride: 32 }),
-                unnamed(Inner::Array { base: 1, size: 2, stride: 96 }),
-                unnamed(structure(&[0, 1, 2])),
-                Record::Global(global(0, UNIFORM, 0)),
-                Record::Global(global(1, STORAGE, 3)),
-            ];
-            cases.push(domain(&Sheet { start: 0, flags: 0, records }));
-        }
-    }
     cases
 }
 

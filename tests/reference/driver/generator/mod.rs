@@ -8,6 +8,7 @@ mod families;
 mod functions;
 mod halves;
 mod listing;
+mod strides;
 mod sweep;
 mod valid;
 mod values;
@@ -23,6 +24,7 @@ pub use listing::{
     changed_words, counts_missing, instructions, list_by_registry, sheets_to_list, words_to_list,
     Listing, Longer, Words, OPCODES,
 };
+pub use strides::strides;
 pub use sweep::sweep;
 use valid::*;
 pub use valid::{aim, valid};
@@ -52,7 +54,7 @@ fn domain(sheet: &Sheet) -> Case {
 }
 
 /// How many of document 02's papers there are by now.
-pub const PAPERS: u8 = 3;
+pub const PAPERS: u8 = 4;
 
 /// The generator splitmix64. Beside its state it knows up to which paper of document 02
 /// values and records are drawn, 0 for document 01 alone: what was stored before a paper

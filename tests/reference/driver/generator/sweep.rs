@@ -116,6 +116,7 @@ pub fn sweep() -> Vec<(String, Vec<Case>)> {
     globals(&mut s);
     references(&mut s);
     functions(&mut s);
+    strides(&mut s);
     s.groups.retain(|(_, cases)| !cases.is_empty());
     s.groups
 }
@@ -485,5 +486,26 @@ fn ranks_of_functions(s: &mut Sweep, types: &[Record]) {
             unless(rank <= 3, 6),
         );
         s.sheet(&[before(&other), vec![function.clone(), other]].concat(), unless(rank >= 3, 6));
+    }
+}
+
+/// Paper 4: each number of the table of strides, in a struct and in a wrapper, and what is at
+/// its edges.
+fn strides(s: &mut Sweep) {
+    let matrix = |rows, width| unnamed(Inner::Matrix { columns: 3, rows, width });
+    s.group("rows and width of a matrix that is a member".into());
+    for width in 1..=9 {
+        for rows in 1..=5 {
+            let fits = (2..=4).contains(&rows) && [2, 4, 8].contains(&width);
+            s.sheet(&[matrix(rows, width), unnamed(structure(&[0]))], unless(fits, 10));
+        }
+    }
+    s.group("rows and width of a matrix, alone and under an array, in a wrapper".into());
+    for width in [2, 4, 8] {
+        for rows in 2..=4 {
+            let array = unnamed(Inner::Array { base: 0, size: 5, stride: 96 });
+            let [alone, under] = [0, 1].map(|ty| Record::Global(global(ty, UNIFORM, 0)));
+            s.sheet(&[matrix(rows, width), array, alone, under], Expect::Domain);
+        }
     }
 }

@@ -2,6 +2,23 @@
 
 use super::*;
 
+/// Paper 4: bytes from one column of a matrix to the next, a line for 2, 3 and 4 rows, in it a
+/// number for the widths 2, 4 and 8.
+const STRIDES: [[u64; 3]; 3] = [[4, 8, 16], [8, 16, 32], [8, 16, 32]];
+
+/// The faults of its numbers, in its order.
+const WRONG_STRIDES: [Fault; 9] = [
+    Fault::Stride2Of2,
+    Fault::Stride2Of4,
+    Fault::Stride2Of8,
+    Fault::Stride3Of2,
+    Fault::Stride3Of4,
+    Fault::Stride3Of8,
+    Fault::Stride4Of2,
+    Fault::Stride4Of4,
+    Fault::Stride4Of8,
+];
+
 impl Second {
     pub(super) fn write_type(&mut self, t: &Type) {
         let id = match self.shape_of(&t.inner) {
@@ -344,25 +361,38 @@ impl Second {
                 ty = base;
             }
         }
-        if let Inner::Matrix { columns, rows, width } = *self.inner(ty) {
-            let along = if self.has(Fault::StrideByColumns) { columns } else { rows };
-            let units = match along {
-                3 if self.has(Fault::StrideOfThree) => 3,
-                2 => 2,
-                _ => 4,
-            };
-            let stride = match width {
-                2 if self.has(Fault::HalfStride) => [units * 4],
-                _ => [units * width as u64],
-            };
+        if let Some(stride) = self.stride(ty) {
             let early = self.has(Fault::StrideBeforeColMajor);
             if early {
-                self.decorate_member(id, index, decoration::MATRIX_STRIDE, &stride);
+                self.decorate_member(id, index, decoration::MATRIX_STRIDE, &[stride]);
             }
             self.decorate_member(id, index, decoration::COL_MAJOR, &[]);
             if !early {
-                self.decorate_member(id, index, decoration::MATRIX_STRIDE, &stride);
+                self.decorate_member(id, index, decoration::MATRIX_STRIDE, &[stride]);
             }
+        }
+    }
+
+    /// How far apart the columns are if the type is a matrix, from paper 4's table.
+    fn stride(&self, ty: u16) -> Option<u64> {
+        let Inner::Matrix { columns, rows, width } = *self.inner(ty) else { return None };
+        if rows == 3 && self.has(Fault::StrideOfThree) {
+            return Some(3 * width as u64);
+        }
+        let rows = if self.has(Fault::StrideByColumns) { columns } else { rows };
+        let width = if width == 2 && self.has(Fault::HalfStride) { 4 } else { width };
+        let line = [2, 3, 4].iter().position(|&r| r == rows)?;
+        let place = [2, 4, 8].iter().position(|&w| w == width)?;
+        let mut strides = STRIDES;
+        if let Some(n) = WRONG_STRIDES.iter().position(|&fault| self.has(fault)) {
+            strides[n / 3][n % 3] += 4;
+        }
+        if self.has(Fault::StridesExchanged) {
+            strides[2].swap(1, 2);
+        }
+        match self.has(Fault::StrideTableByColumns) {
+            true => Some(strides[place][line]),
+            false => Some(strides[line][place]),
         }
     }
 

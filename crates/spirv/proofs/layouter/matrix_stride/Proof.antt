@@ -1,28 +1,25 @@
--- `matrix_stride` meets its contract. Two or four components of a width below 256 are less than 1,024 bytes, so the product
--- fits; it is the definition's by what `Alignment::from` ensures.
-use Prim.Native.Nat.{ℕ, _*_, _<_, _≤_}
-use mathlib.Core.Path.{ap}
-use mathlib.Core.Bool.{Bool, true, false}
+-- `matrix_stride` meets its contract. Rows and width are among the nine, so their line and place are in the table (`in-table`), and
+-- the number that stands there is the formula's (`stride-at`).
 use native.Mathlib.Omega.{arith}
-use lib.Dec.{eqb, lit≤}
 use borrow.Author.Needs.{needs}
-use Rattle.definition.specs.Choice.{pick}
+use Rattle.definition.proofs.Strides.{in-table, stride-at}
 use Rattle.spirv.proofs.layouter.matrix_stride.Statement.{statement}
 use Rattle.spirv.proofs.layouter.matrix_stride.Tie as tie
 
--- how many components, and how many bytes
-small : (two : Bool) (width : ℕ) → width < 256 → (pick two 2 4 ≤ 4) × (pick two 2 4 * width < 1024)
-small true width h = (lit≤ tt, omega arith)
-small false width h = (lit≤ tt, omega arith)
+sub-line : tie.Need-sub-line
+sub-line c = in-table (c .args .rows) (c .args .width) (c .pre) .0
 
-mul-result : tie.Need-mul-result
-mul-result c =
-    let a = c .before .before .args in
-    let e : (c .before .from .result .0 ≤ 4) × (c .before .from .result .0 * a .width < 1024) = rw (c .before .from .ensures) (small (eqb (a .rows) 2) (a .width) (omega arith)) in
-    omega (arith, e .0, e .1)
+index-1-result : tie.Need-index-1-result
+index-1-result c = let t = in-table (c .args .rows) (c .args .width) (c .pre) in omega arith
+
+index-2-result : tie.Need-index-2-result
+index-2-result c = let t = in-table (c .args .rows) (c .args .width) (c .pre) in omega arith
 
 returns : tie.Need-returns
-returns c = ap (λ (n : ℕ). n * c .before .before .args .width) (c .before .from .ensures)
+returns c = let a = c .before .args in stride-at (a .rows) (a .width) (c .before .pre)
 
 pub matrix-stride-spec : {M : Type 1} → statement M
-matrix-stride-spec = tie.close (tie.spec (λ c κs. search needs) mul-result returns)
+matrix-stride-spec =
+    tie.close
+    (tie.spec sub-line (λ c. search needs) (λ c. search needs) (λ c. search needs) (λ c. search needs) index-1-result
+    index-2-result returns)

@@ -9,7 +9,7 @@ use Rattle.type_facts.proofs.facets.facet_of.Tie as tie
 
 returns-3 : tie.Need-returns-3
 unfolding typeFields
-returns-3 c = simp (c .before .before .before .match .keys3, c .matrix-stride .ensures, c .before .before .u8-at .ensures, c .before .u8-at2 .ensures, c .before .before .before .before .name-end .ensures .0)
+returns-3 c = simp (c .before .before .match .keys3, c .before .u8-at .ensures, c .u8-at2 .ensures, c .before .before .before .name-end .ensures .0)
 
 returns-7 : tie.Need-returns-7
 unfolding typeFields
@@ -31,10 +31,9 @@ pub facet-of-spec : {M : Type 1} → statement M
 unfolding typeFields
 facet-of-spec =
     tie.close
-    (tie.spec (λ c κs. search needs) (λ c. search needs) (λ c κs. search needs) (λ c. search needs) (λ c. search needs)
-    (λ c κs. search needs) (λ c. search needs) (λ c κs. search needs) (λ c κs. search needs) (λ c. search needs)
+    (tie.spec (λ c κs. search needs) (λ c. search needs) (λ c κs. search needs) (λ c. search needs) (λ c κs. search needs)
     (λ c κs. search needs) (λ c. search needs) (λ c κs. search needs) (λ c. search needs) (λ c κs. search needs)
-    (λ c κs. search needs) (λ c κs. search needs) (λ c κs. search needs) (λ c. simp (c .match .keys1)) (λ c. simp (c .match .keys2)) returns-3
-    (λ c. simp (c .match .keys4)) (λ c. simp (c .match .keys5)) (λ c. simp (c .match .keys6)) returns-7
-    (λ c. simp (c .match .keys8)) returns-9 (λ c. simp (c .match .keys10)) (λ c. simp (c .match .keys11))
-    (λ c. simp (c .match .keys12)) returns-13 returns-14)
+    (λ c. search needs) (λ c κs. search needs) (λ c κs. search needs) (λ c κs. search needs) (λ c κs. search needs)
+    (λ c. simp (c .match .keys1)) (λ c. simp (c .match .keys2)) returns-3 (λ c. simp (c .match .keys4))
+    (λ c. simp (c .match .keys5)) (λ c. simp (c .match .keys6)) returns-7 (λ c. simp (c .match .keys8)) returns-9
+    (λ c. simp (c .match .keys10)) (λ c. simp (c .match .keys11)) (λ c. simp (c .match .keys12)) returns-13 returns-14)
