@@ -1,5 +1,6 @@
 -- What a facet says of a type is what the definition asks of it: a line for each of the thirteen types. Only an image needs a
--- step more, since its facet goes by its class. Then the wrapper of a type and of a global.
+-- step more, since its facet goes by its class, and a matrix's stride, which goes by its rows and width. Then the wrapper of a type
+-- and of a global.
 use Prim.Native.Nat.{ℕ, _+_}
 use mathlib.Core.Path.{_≡_, refl}
 use mathlib.Core.Bool.{Bool, true, false, _&&_}
