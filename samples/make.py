@@ -415,6 +415,57 @@ SAMPLES["strides"] = (
     ),
 )
 
+# Paper 5: Block once on each id. Eight logs in a binding array, each a count and lines of
+# any number: their struct has Block by its dynamic array, and no global repeats it. Lanes
+# in another binding array, whose struct has Block by the first global of the two.
+SAMPLES["blocks"] = (
+    sheet(
+        scalar(UINT, 4),  # 0
+        array(0, 0, 4),  # 1: lines
+        struct(4, member(0, 0), member(1, 4)),  # 2: a log
+        binding_array(2, 8),  # 3: logs
+        struct(8, member(0, 0), member(0, 4)),  # 4: a lane
+        binding_array(4, 0),  # 5: lanes
+        global_(3, STORAGE, LOAD | STORE, at=(0, 0)),
+        global_(3, STORAGE, LOAD, at=(0, 1)),
+        global_(5, STORAGE, LOAD | STORE, at=(0, 2)),
+        global_(5, STORAGE, LOAD, at=(0, 3)),
+    ),
+    module(
+        14,
+        (DECORATE, 2, ARRAY_STRIDE, 4),
+        (MEMBER_DECORATE, 3, 0, OFFSET, 0),
+        (MEMBER_DECORATE, 3, 1, OFFSET, 4),
+        (DECORATE, 3, BLOCK),
+        (MEMBER_DECORATE, 6, 0, OFFSET, 0),
+        (MEMBER_DECORATE, 6, 1, OFFSET, 4),
+        (DECORATE, 8, DESCRIPTOR_SET, 0),
+        (DECORATE, 8, BINDING, 0),
+        (DECORATE, 10, NON_WRITABLE),
+        (DECORATE, 10, DESCRIPTOR_SET, 0),
+        (DECORATE, 10, BINDING, 1),
+        (DECORATE, 11, DESCRIPTOR_SET, 0),
+        (DECORATE, 11, BINDING, 2),
+        (DECORATE, 6, BLOCK),
+        (DECORATE, 13, NON_WRITABLE),
+        (DECORATE, 13, DESCRIPTOR_SET, 0),
+        (DECORATE, 13, BINDING, 3),
+        (TYPE_INT, 1, 32, 0),
+        (TYPE_RUNTIME_ARRAY, 2, 1),
+        (TYPE_STRUCT, 3, 1, 2),
+        (CONSTANT, 1, 5, 8),
+        (TYPE_ARRAY, 4, 3, 5),
+        (TYPE_STRUCT, 6, 1, 1),
+        (TYPE_RUNTIME_ARRAY, 7, 6),
+        (TYPE_POINTER, 9, STORAGE_BUFFER_CLASS, 4),
+        (VARIABLE, 9, 8, STORAGE_BUFFER_CLASS),
+        (VARIABLE, 9, 10, STORAGE_BUFFER_CLASS),
+        (TYPE_POINTER, 12, STORAGE_BUFFER_CLASS, 7),
+        (VARIABLE, 12, 11, STORAGE_BUFFER_CLASS),
+        (VARIABLE, 12, 13, STORAGE_BUFFER_CLASS),
+    ),
+)
+
 # A camera tunnel's tables as a warehouse might draw them: frames and chutes in a
 # uniform buffer, the chute log in a storage buffer, pictures by binding array.
 TUNNEL = sheet(

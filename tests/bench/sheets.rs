@@ -544,6 +544,19 @@ pub fn worst() -> Vec<(&'static str, Vec<u8>)> {
     let mut records = fill(base(), 190, small);
     records.extend((0..64).map(|n| Record::Global(global(190 - n, UNIFORM))));
     add("64 wrapped globals of 190 structs", records);
+    // Block on bases: written once among 2,000 annotations, and looked for among 230 ids.
+    let stored = |ty: u16| (0..64).map(move |_| Record::Global(global(ty, STORAGE)));
+    let lane = |n: usize| unnamed(structure(n as u32, &[0; 64]));
+    let mut records = fill(vec![unnamed(scalar(FLOAT))], 31, lane);
+    records.push(unnamed(Inner::BindingArray { base: 1, size: 1 }));
+    records.extend(stored(32));
+    add("64 Storage globals of one base, 31 structs of 64 members", records);
+    let dynamic = Inner::Array { base: 0, size: 0, stride: 4 };
+    let log = |n: usize| unnamed(structure(n as u32, &[1]));
+    let mut records = fill(vec![unnamed(scalar(FLOAT)), unnamed(dynamic)], 230, log);
+    records.push(unnamed(Inner::BindingArray { base: 231, size: 1 }));
+    records.extend(stored(232));
+    add("64 Storage globals of the last of 230 structs with Block", records);
     // Just above each class of scratch, which is cleared whole.
     out.push(("a byte over the first class of scratch", of_length(33)));
     out.push(("a byte over the second class of scratch", of_length(129)));

@@ -28,7 +28,7 @@ use Rattle.declarations.specs.Promise.{wrappingAs, DeclarePromise, Wrapp
 pub record Lent (s : List ℕ) (nrecords nbytes : ℕ) (T S : List ℕ) : Type 0 where
   pub for-bytes : length s ≤ sheetMost → length s ≤ nbytes
   pub for-records : (length s ≤ 3 * nrecords) ⊎ (recordsMost ≤ nrecords)
-  pub tables : 19 * nrecords + nbytes ≤ length T
+  pub tables : 20 * nrecords + nbytes ≤ length T
   pub sections : 7 * nbytes ≤ length S
   pub few : nbytes ≤ 65536
 

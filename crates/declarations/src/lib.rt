@@ -37,7 +37,7 @@ const LARGE_RECORDS: usize = 704;
 
 // The scratch of a class, as `writer` lays it out: so many numbers of tables for each record, and one for each byte behind them for
 // the parts of composites; so many words of sections for each byte.
-const TABLE_NUMBERS: usize = 19;
+const TABLE_NUMBERS: usize = 20;
 
 const SECTION_WORDS: usize = 7;
 

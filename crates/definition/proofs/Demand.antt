@@ -9,7 +9,7 @@ use mathlib.Core.Option.{Option, some, none}
 use mathlib.Core.Bool.{Bool, true, false}
 use native.Mathlib.Omega.{arith}
 use borrow.Author.Tests.{eq-eqb, ne-eqb}
-use lib.Dec.{T, lit<, leb, eqb→eq}
+use lib.Dec.{T, lit<, eqb, leb, eqb→eq}
 use lib.ListN.{length, getElem?, take, drop}
 use lib.Seq.{take-at, drop-at}
 use Rattle.definition.specs.Choice.{pick, orElse}
@@ -23,8 +23,9 @@ use Rattle.definition.specs.Shapes.{Kind, Shape, Key, sameKey, shapeOf, 
 use Rattle.definition.specs.Shapes.{scalar, vector, matrix, pointer, valuePointer, image, sampler, accelerationStructure, rayQuery, bindingArray, bindingPointer}
 use Rattle.definition.specs.State.{Composite, composite, function, void, sameComposite, State, occurrences, lookup, idOf, boundOf, capabilityInstructions, instructions, moduleWords, entryId, entryIds}
 use Rattle.definition.specs.Operations.{Progress, judged, Written, unchanged, declaredOf, declare}
-use Rattle.definition.specs.WellDeclared.{times, once, declaresId, Above, plainType, EqualTypes, NoEqualTypes, targets, targetOf, marks, needs, listedIn, listedBy, needed, WellDeclared, HasShape, EntriesDeclared, returnId, signatureOf, VoidReturned, FunctionsDeclared, Demand3, writtenOf, Accepted, Demand3OfDeclare}
+use Rattle.definition.specs.WellDeclared.{times, once, declaresId, Above, plainType, EqualTypes, NoEqualTypes, targets, targetOf, marks, needs, listedIn, listedBy, needed, carried, WellDeclared, HasShape, EntriesDeclared, returnId, signatureOf, VoidReturned, FunctionsDeclared, Demand3, writtenOf, Accepted, Demand3OfDeclare}
 use Rattle.definition.proofs.Lists.{same-itself, times-append, times-in, targets-append, upTo-in, upTo-out, lookup-in, lookup-out}
+use Rattle.definition.proofs.Repeats.{carried-append, none-carried, firsts, naming}
 use Rattle.definition.proofs.Sizes.{W}
 use Rattle.definition.proofs.ByShape.{taken, FitsIn, ReadAs, ReadIn, scalar-by, facts}
 use Rattle.definition.proofs.Inners.{plain-shape}
@@ -150,6 +151,11 @@ unfolding capabilityInstructions listedIn listedBy
 capability-listed [] = refl
 capability-listed (c ∷ cs) = ap (λ (xs : List ℕ). c ∷ xs) (capability-listed cs)
 
+capability-carried : (o : ℕ) (ks cs : List ℕ) → eqb OpCapability o ≡ false → carried o ks (capabilityInstructions cs) ≡ 0
+unfolding capabilityInstructions carried
+capability-carried o ks [] e = refl
+capability-carried o ks (c ∷ cs) e = let h = capability-carried o ks cs e in rw e (omega arith)
+
 listed-append : (xs ys : List Instruction) → listedIn (xs ++ ys) ≡ listedIn xs ++ listedIn ys
 unfolding listedIn
 listed-append [] ys = refl
@@ -250,6 +256,20 @@ module _ (start : ℕ) (s : State) (h : Sound start [] s) where
   )
       (append-nil (s .capabilities ++ []) ∙ append-nil (s .capabilities))
 
+  -- decorations stand among the annotations alone, none of them twice
+  all-once : (o : ℕ) (ks : List ℕ) → length ks ≡ firsts o → eqb OpCapability o ≡ false → (T (naming o) → ⊥) → layoutOf o .declares ≡ false → carried o ks (instructions s) ≤ 1
+  unfolding instructions
+  all-once o ks l c n d = omega (
+    arith,
+    carried-append o ks (capabilityInstructions (s .capabilities)) (s .names ++ (s .annotations ++ s .declarations)),
+    carried-append o ks (s .names) (s .annotations ++ s .declarations),
+    carried-append o ks (s .annotations) (s .declarations),
+    capability-carried o ks (s .capabilities) c,
+    none-carried o ks (s .names) (λ x m e. n (subst (λ (p : ℕ). T (naming p)) e (h .single .named x m))),
+    none-carried o ks (s .declarations) (λ x m. not-opcode (s .last) x (h .formed x m) o d),
+    h .single .at-most-once o ks l,
+  )
+
   -- what the reader takes
   pub all-readable : ((c : ℕ) → List·Memᴰ c (s .capabilities) → c ≤ W) → (d : Instruction) → List·Memᴰ d (instructions s) → Readable (s .last) d
   unfolding instructions
@@ -288,6 +308,8 @@ module _ (start : ℕ) (s : State) (h : Sound start [] s) where
     on-declared = λ t m. let q = all-on t (List·Memᴰ·append-cases (targets (s .names)) (rw all-targets at m)) in all-times t ∙ each-once t (q .0) (q .1);
     capabilities = λ c. rw (all-listed, all-needed c) (h .caps c);
     no-equal-types = rw as-front (quiet-equal-types front (s .declarations) front-quiet (h .apart));
+    no-repeats = λ i d. all-once OpDecorate (i ∷ d ∷ []) refl refl (λ t. t) refl;
+    no-member-repeats = λ i m d. all-once OpMemberDecorate (i ∷ m ∷ d ∷ []) refl refl (λ t. t) refl;
   }
 
   all-declarations : {d : Instruction} → List·Memᴰ d (s .declarations) → List·Memᴰ d (instructions s)

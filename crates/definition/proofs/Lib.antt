@@ -5,6 +5,7 @@ pub mod Sizes
 pub mod Images
 pub mod Few
 pub mod ByShape
+pub mod Repeats
 pub mod Sound
 pub mod Finding
 pub mod Marks

@@ -1,20 +1,25 @@
--- Names and decorations: each is an instruction that the reader takes (a computed test), on an id that is declared or pending, so the
--- state stays sound; and each adds to its own section alone.
-use Prim.Native.Nat.{ℕ, _+_, _≤_}
+-- Names and decorations: each is an instruction that the reader takes (a computed test), on an id that is declared or pending, and a
+-- decoration is one that does not stand there yet, so the state stays sound; and each adds to its own section alone.
+use Prim.Native.Nat.{ℕ, suc, _+_, _<_, _≤_}
 use mathlib.Core.Path.{_≡_, refl}
-use mathlib.Core.List.{List, [], _∷_, List·Memᴰ, List·Memᴰ·eq-of-singleton}
+use mathlib.Core.List.{List, [], _∷_, List·Memᴰ, List·Memᴰ·head, List·Memᴰ·eq-of-singleton}
 use mathlib.Core.Option.{some, none}
 use mathlib.Core.Bool.{Bool, true, false}
 use native.Mathlib.Omega.{arith}
+use lib.Dec.{eqb, lit≤}
 use lib.ListN.{length}
+use Rattle.definition.specs.Choice.{pick, among}
 use Rattle.definition.specs.Bytes.{Name}
+use Rattle.definition.specs.Numbers.{OpDecorate, OpMemberDecorate, DecorationBlock}
 use Rattle.definition.specs.Instructions.{Instruction, packed, name, memberName, decorate, memberDecorate}
 use Rattle.definition.specs.Reader.{isString}
-use Rattle.definition.specs.State.{State, annotate, label}
-use Rattle.definition.specs.Rules.{labelIf, annotateIf}
-use Rattle.definition.specs.WellDeclared.{times, targets, targetOf}
+use Rattle.definition.specs.State.{State, takeId, annotate, label}
+use Rattle.definition.specs.Rules.{labelIf, annotateIf, block, blocked, blockOnce}
+use Rattle.definition.specs.WellDeclared.{times, targets, targetOf, carried, timesDecorated, timesMemberDecorated}
+use Rattle.definition.proofs.Truth.{pick-for}
 use Rattle.definition.proofs.ByShape.{taken}
 use Rattle.definition.proofs.Few.{one-few}
+use Rattle.definition.proofs.Repeats.{annotate-single, label-single, carried-other, none-on, not-blocked}
 use Rattle.definition.proofs.Sizes.{W, Under, under-more}
 use Rattle.definition.proofs.Sound.{Sound, pending, mark-sound, name-sound, taken-range}
 use Rattle.definition.proofs.Finding.{Grew, grew-refl}
@@ -57,6 +62,9 @@ pub annotateIf-grew : (b : Bool) (d : Instruction) (s : State) → Grew s (annot
 annotateIf-grew false d s = grew-refl s
 annotateIf-grew true d s = annotate-grew d s
 
+pub once-grew : (id : ℕ) (s : State) → Grew s (blockOnce id s)
+once-grew id s = pick-for (Grew s) (among id (blocked (s .annotations))) s (annotate (block id) s) (grew-refl s) (annotate-grew (block id) s)
+
 pub labelIf-grew : (b : Bool) (write : List ℕ → Instruction) (n : Name) (s : State) → Grew s (labelIf b write n s)
 labelIf-grew false write n s = grew-refl s
 labelIf-grew true write none s = grew-refl s
@@ -70,8 +78,8 @@ module _ (start : ℕ) (id : ℕ) (P : List (ℕ × ℕ)) where
   low : (s : State) → Taken id P s → Sound start P s → id ≤ s .last
   low s t h = taken-range start P s h id t .1
 
-  pub decorate-sound : (d : ℕ) (xs : List ℕ) (s : State) → d ≤ W → Under W xs → length xs ≤ 1 → Taken id P s → Sound start P s → Sound start P (annotate (decorate id d xs) s)
-  decorate-sound d xs s dw xw short t h =
+  pub decorate-sound : (d : ℕ) (xs : List ℕ) (s : State) → d ≤ W → Under W xs → length xs ≤ 1 → Taken id P s → timesDecorated id d (s .annotations) ≡ 0 → Sound start P s → Sound start P (annotate (decorate id d xs) s)
+  decorate-sound d xs s dw xw short t new h =
       mark-sound start id (decorate id d xs) P s
       (record {
         formed = taken (rw (one-few xs short) tt);
@@ -79,10 +87,10 @@ module _ (start : ℕ) (id : ℕ) (P : List (ℕ × ℕ)) where
         marking = tt;
         fits = record { words = λ B p q. (omega (arith, low s t h), (omega arith, under-more W B xs p xw)); short = omega arith };
       })
-      (decorate-target id d xs) t h
+      (decorate-target id d xs) t (annotate-single (s .names) (s .annotations) OpDecorate (id ∷ d ∷ []) xs refl new (h .single)) h
 
-  pub member-sound : (i d : ℕ) (xs : List ℕ) (s : State) → i ≤ W → d ≤ W → Under W xs → length xs ≤ 1 → Taken id P s → Sound start P s → Sound start P (annotate (memberDecorate id i d xs) s)
-  member-sound i d xs s iw dw xw short t h =
+  pub member-sound : (i d : ℕ) (xs : List ℕ) (s : State) → i ≤ W → d ≤ W → Under W xs → length xs ≤ 1 → Taken id P s → timesMemberDecorated id i d (s .annotations) ≡ 0 → Sound start P s → Sound start P (annotate (memberDecorate id i d xs) s)
+  member-sound i d xs s iw dw xw short t new h =
       mark-sound start id (memberDecorate id i d xs) P s
       (record {
         formed = taken (rw (one-few xs short) tt);
@@ -90,11 +98,19 @@ module _ (start : ℕ) (id : ℕ) (P : List (ℕ × ℕ)) where
         marking = tt;
         fits = record { words = λ B p q. (omega (arith, low s t h), (omega arith, (omega arith, under-more W B xs p xw))); short = omega arith };
       })
-      (member-target id i d xs) t h
+      (member-target id i d xs) t (annotate-single (s .names) (s .annotations) OpMemberDecorate (id ∷ i ∷ d ∷ []) xs refl new (h .single)) h
 
-  pub decorateIf-sound : (b : Bool) (d : ℕ) (s : State) → d ≤ W → Taken id P s → Sound start P s → Sound start P (annotateIf b (decorate id d []) s)
-  decorateIf-sound false d s dw t h = h
-  decorateIf-sound true d s dw t h = decorate-sound d [] s dw tt (omega arith) t h
+  pub decorateIf-sound : (b : Bool) (d : ℕ) (s : State) → d ≤ W → Taken id P s → timesDecorated id d (s .annotations) ≡ 0 → Sound start P s → Sound start P (annotateIf b (decorate id d []) s)
+  decorateIf-sound false d s dw t new h = h
+  decorateIf-sound true d s dw t new h = decorate-sound d [] s dw tt (omega arith) t new h
+
+  -- Block, where it is not yet
+  pub once-sound : (s : State) → Taken id P s → Sound start P s → Sound start P (blockOnce id s)
+  once-sound s t h = go (among id (blocked (s .annotations))) refl
+    where
+      go : (b : Bool) → among id (blocked (s .annotations)) ≡ b → Sound start P (pick b s (annotate (block id) s))
+      go true e = h
+      go false e = decorate-sound DecorationBlock [] s (lit≤ tt) tt (omega arith) t (not-blocked id (s .annotations) e) h
 
   pub name-kept : (b : Bool) (n : Name) (s : State) → GoodName n → Taken id P s → Sound start P s → Sound start P (labelIf b (name id) n s)
   name-kept false n s g t h = h
@@ -107,7 +123,7 @@ module _ (start : ℕ) (id : ℕ) (P : List (ℕ × ℕ)) where
         marking = tt;
         fits = record { words = λ B p q. (omega (arith, low s t h), under-more W B (packed bs) p (g .words)); short = omega (arith, g .short) };
       })
-      (name-target id bs) t h
+      (name-target id bs) t (label-single (s .names) (s .annotations) (name id bs) tt (h .single)) h
 
   pub member-name-kept : (b : Bool) (i : ℕ) (n : Name) (s : State) → i ≤ W → GoodName n → Taken id P s → Sound start P s → Sound start P (labelIf b (memberName id i) n s)
   member-name-kept false i n s iw g t h = h
@@ -120,4 +136,32 @@ module _ (start : ℕ) (id : ℕ) (P : List (ℕ × ℕ)) where
         marking = tt;
         fits = record { words = λ B p q. (omega (arith, low s t h), (omega arith, under-more W B (packed bs) p (g .words))); short = omega (arith, g .short) };
       })
-      (member-name-target id i bs) t h
+      (member-name-target id i bs) t (label-single (s .names) (s .annotations) (memberName id i bs) tt (h .single)) h
+
+-- ---- what does not stand there yet
+
+-- nothing on an id, and nothing on its members
+pub record Bare (id : ℕ) (s : State) : Type 0 where
+  pub on-id : (ks : List ℕ) → carried OpDecorate (id ∷ ks) (s .annotations) ≡ 0
+  pub on-members : (ks : List ℕ) → carried OpMemberDecorate (id ∷ ks) (s .annotations) ≡ 0
+
+-- the id taken last
+pub fresh-bare : (start : ℕ) (P : List (ℕ × ℕ)) (s : State) → Sound start P s → Bare (suc (s .last)) (takeId s)
+unfolding targetOf
+fresh-bare start P s h =
+    let below : (t : ℕ) → List·Memᴰ t (targets (s .annotations)) → t < suc (s .last) = λ t m. omega (arith, h .annotations .on t m .1) in
+    record {
+      on-id = λ ks. none-on OpDecorate (λ t ws. List·Memᴰ·head refl) (suc (s .last)) ks (s .annotations) below;
+      on-members = λ ks. none-on OpMemberDecorate (λ t ws. List·Memᴰ·head refl) (suc (s .last)) ks (s .annotations) below;
+    }
+
+-- a name decorates nothing
+pub labelIf-notes : (b : Bool) (write : List ℕ → Instruction) (n : Name) (s : State) → labelIf b write n s .annotations ≡ s .annotations
+labelIf-notes false write n s = refl
+labelIf-notes true write none s = refl
+labelIf-notes true write (some bs) s = refl
+
+-- one decoration of an id leaves another open
+pub decorateIf-other : (b : Bool) (id d e : ℕ) (s : State) → eqb d e ≡ false → timesDecorated id d (annotateIf b (decorate id e []) s .annotations) ≡ timesDecorated id d (s .annotations)
+decorateIf-other false id d e s f = refl
+decorateIf-other true id d e s f = carried-other OpDecorate (id ∷ []) d e [] [] (s .annotations) f

@@ -18,8 +18,9 @@ use Rattle.definition.specs.Shapes.{Kind, Shape, Key, inner, sized, rank
 use Rattle.definition.specs.Shapes.{sint, uint, float, bool, scalar, vector, matrix, pointer, valuePointer, image, sampler, accelerationStructure, rayQuery, bindingArray, bindingPointer}
 use Rattle.definition.specs.State.{Composite, composite, function, void, Valued, Constants, State, same, occurrences, takeId, enter, withConstants, annotate, label, declareAlone, declareWith, empty}
 use Rattle.definition.specs.Rules.{orNewType}
-use Rattle.definition.specs.WellDeclared.{times, once, Above, NoEqualTypes, EqualTypes, needs, needed, plainType, targets, marks}
+use Rattle.definition.specs.WellDeclared.{times, once, Above, NoEqualTypes, EqualTypes, needs, needed, plainType, targets, marks, carried}
 use Rattle.definition.proofs.Lists.{last-in, targets-append, snoc-cases, same-itself, upTo, upTo-in, upTo-out, upTo-suc, times-snoc, times-in, above-snoc, equal-types-snoc, listed-count, needed-snoc, table-bounded, table-unique}
+use Rattle.definition.proofs.Repeats.{Single}
 use Rattle.definition.proofs.Sizes.{Sized, sized-up, SmallKind}
 use Rattle.definition.proofs.ByShape.{FitsIn, FitsLength, Formed, facts}
 
@@ -180,6 +181,7 @@ pub record Sound (start : ℕ) (P : List (ℕ × ℕ)) (s : State) : Type 0 wher
   pub caps : (c : ℕ) → occurrences c (s .capabilities) ≡ min 1 (needed c (s .declarations))
   pub names : Notes start (s .last) (s .names)
   pub annotations : Notes start (s .last) (s .annotations)
+  pub single : Single (s .names) (s .annotations)
   pub bounded : (k : Key) (i : ℕ) → List·Memᴰ (k, i) (s .types) → i ≤ s .last
   pub unique : (k : Key) (i j : ℕ) → List·Memᴰ (k, i) (s .types) → List·Memᴰ (k, j) (s .types) → i ≡ j
   pub injective : (l m : Shape) (i : ℕ) → List·Memᴰ (shape l, i) (s .types) → List·Memᴰ (shape m, i) (s .types) → l ≡ m
@@ -227,7 +229,7 @@ settled-declared {types} {ds} {l} {i} h = omega (arith, times-in i (h .declared)
 
 module _ (start : ℕ) where
   pub start-sound : Sound start [] (empty start)
-  unfolding times occurrences needed targets
+  unfolding times occurrences needed targets carried
   start-sound = record {
     ids = λ i. omega arith;
     above = tt;
@@ -235,6 +237,7 @@ module _ (start : ℕ) where
     caps = λ c. refl;
     names = record { on = λ t m. absurd (List·Memᴰ·not-nil m); notes = λ d m. absurd (List·Memᴰ·not-nil m) };
     annotations = record { on = λ t m. absurd (List·Memᴰ·not-nil m); notes = λ d m. absurd (List·Memᴰ·not-nil m) };
+    single = record { named = λ d m. absurd (List·Memᴰ·not-nil m); at-most-once = λ o ks l. omega arith };
     routines = λ c i t m. absurd (List·Memᴰ·not-nil m);
     bounded = λ k i m. absurd (List·Memᴰ·not-nil m);
     unique = λ k i j m. absurd (List·Memᴰ·not-nil m);
@@ -255,6 +258,7 @@ module _ (start : ℕ) where
     caps = h .caps;
     names = notes-up start (s .last) (s .names) (h .names);
     annotations = notes-up start (s .last) (s .annotations) (h .annotations);
+    single = h .single;
     routines = h .routines;
     bounded = λ k i m. omega (arith, h .bounded k i m);
     unique = h .unique;
@@ -280,6 +284,7 @@ module _ (start : ℕ) where
     caps = g .caps;
     names = g .names;
     annotations = g .annotations;
+    single = h .single;
     routines = h .routines;
     bounded = table-bounded (s .types) (shape l) (suc (s .last)) (suc (s .last)) (g .bounded) (omega arith);
     unique = table-unique (s .types) (shape l) (suc (s .last)) (h .unique) new;
@@ -329,6 +334,7 @@ module _ (start : ℕ) where
     caps = h .caps;
     names = h .names;
     annotations = h .annotations;
+    single = h .single;
     routines = h .routines;
     bounded = table-bounded (s .types) (entry k) id (s .last) (h .bounded) low;
     unique = table-unique (s .types) (entry k) id (h .unique) new;
@@ -369,6 +375,7 @@ module _ (start : ℕ) where
     caps = λ c. let q = h .caps c in let p = listed-count c cs (s .capabilities) (omega arith) in omega (arith, needed-snoc c (s .declarations) d, ap (λ (xs : List ℕ). occurrences c xs) nc);
     names = h .names;
     annotations = h .annotations;
+    single = h .single;
     routines = λ c i t m. Memᴰ·append-left (d ∷ []) (h .routines c i t m);
     bounded = h .bounded;
     unique = h .unique;
@@ -419,6 +426,7 @@ module _ (start : ℕ) where
     caps = h .caps;
     names = h .names;
     annotations = h .annotations;
+    single = h .single;
     routines = λ x i t m. h .routines x i t (back x i t m);
     bounded = h .bounded;
     unique = h .unique;
@@ -442,6 +450,7 @@ module _ (start : ℕ) where
     caps = λ c′. let q = h .caps c′ in let p = listed-count c′ [] (s .capabilities) (omega arith) in omega (arith, needed-snoc c′ (s .declarations) d, ap (λ (xs : List ℕ). occurrences c′ xs) (routine-free c (suc (s .last))));
     names = notes-up start (s .last) (s .names) (h .names);
     annotations = notes-up start (s .last) (s .annotations) (h .annotations);
+    single = h .single;
     bounded = λ k i m. omega (arith, h .bounded k i m);
     unique = h .unique;
     injective = h .injective;
@@ -486,14 +495,19 @@ module _ (start : ℕ) where
       formed j (inl m) = declaration-up (s .last) j (h .formed j m)
       formed j (inr q) = rw q (record { formed = fd; id = suc (s .last); result = e; fits = fits })
 
-  pub annotate-sound : (d : Instruction) (P : List (ℕ × ℕ)) (s : State) → Note (s .last) d → ((t : ℕ) → List·Memᴰ t (targets (d ∷ [])) → (start < t) × (t ≤ s .last)) → Sound start P s → Sound start P (annotate d s)
-  annotate-sound d P s note on h = record {
+  -- other names and annotations: all else is as it was
+  abbrev marked : List Instruction → List Instruction → State → State
+  marked ns xs s = record { last = s .last; types = s .types; constants = s .constants; capabilities = s .capabilities; names = ns; annotations = xs; declarations = s .declarations }
+
+  marked-sound : (ns xs : List Instruction) (P : List (ℕ × ℕ)) (s : State) → Notes start (s .last) ns → Notes start (s .last) xs → Single ns xs → Sound start P s → Sound start P (marked ns xs s)
+  marked-sound ns xs P s names annotations single h = record {
     ids = h .ids;
     above = h .above;
     apart = h .apart;
     caps = h .caps;
-    annotations = notes-snoc start (s .last) (s .annotations) d note on (h .annotations);
-    names = h .names;
+    names = names;
+    annotations = annotations;
+    single = single;
     routines = h .routines;
     bounded = h .bounded;
     unique = h .unique;
@@ -505,24 +519,11 @@ module _ (start : ℕ) where
     formed = h .formed;
   }
 
-  pub label-sound : (d : Instruction) (P : List (ℕ × ℕ)) (s : State) → Note (s .last) d → ((t : ℕ) → List·Memᴰ t (targets (d ∷ [])) → (start < t) × (t ≤ s .last)) → Sound start P s → Sound start P (label d s)
-  label-sound d P s note on h = record {
-    ids = h .ids;
-    above = h .above;
-    apart = h .apart;
-    caps = h .caps;
-    names = notes-snoc start (s .last) (s .names) d note on (h .names);
-    annotations = h .annotations;
-    routines = h .routines;
-    bounded = h .bounded;
-    unique = h .unique;
-    injective = h .injective;
-    handles = h .handles;
-    settled = h .settled;
-    spelt = h .spelt;
-    constants = h .constants;
-    formed = h .formed;
-  }
+  pub annotate-sound : (d : Instruction) (P : List (ℕ × ℕ)) (s : State) → Note (s .last) d → ((t : ℕ) → List·Memᴰ t (targets (d ∷ [])) → (start < t) × (t ≤ s .last)) → Single (s .names) (s .annotations ++ d ∷ []) → Sound start P s → Sound start P (annotate d s)
+  annotate-sound d P s note on single h = marked-sound (s .names) (s .annotations ++ d ∷ []) P s (h .names) (notes-snoc start (s .last) (s .annotations) d note on (h .annotations)) single h
+
+  pub label-sound : (d : Instruction) (P : List (ℕ × ℕ)) (s : State) → Note (s .last) d → ((t : ℕ) → List·Memᴰ t (targets (d ∷ [])) → (start < t) × (t ≤ s .last)) → Single (s .names ++ d ∷ []) (s .annotations) → Sound start P s → Sound start P (label d s)
+  label-sound d P s note on single h = marked-sound (s .names ++ d ∷ []) (s .annotations) P s (notes-snoc start (s .last) (s .names) d note on (h .names)) (h .annotations) single h
 
   -- an id that is declared or pending lies above the start, and not above the last one taken
   pub taken-range : (P : List (ℕ × ℕ)) (s : State) → Sound start P s → (id : ℕ) → 1 ≤ times id (s .declarations) + pending id P → (start < id) × (id ≤ s .last)
@@ -535,8 +536,8 @@ module _ (start : ℕ) where
       go false e false f = absurd (omega (arith, h .ids id, upTo-out (s .last) id (leb-false id (s .last) f)))
 
   -- a name or a decoration on an id that is declared or pending
-  pub name-sound : (id : ℕ) (d : Instruction) (P : List (ℕ × ℕ)) (s : State) → Note (s .last) d → ((t : ℕ) → List·Memᴰ t (targets (d ∷ [])) → t ≡ id) → 1 ≤ times id (s .declarations) + pending id P → Sound start P s → Sound start P (label d s)
-  name-sound id d P s note on p h = label-sound d P s note (λ t m. subst (λ (x : ℕ). (start < x) × (x ≤ s .last)) (sym (on t m)) (taken-range P s h id p)) h
+  pub name-sound : (id : ℕ) (d : Instruction) (P : List (ℕ × ℕ)) (s : State) → Note (s .last) d → ((t : ℕ) → List·Memᴰ t (targets (d ∷ [])) → t ≡ id) → 1 ≤ times id (s .declarations) + pending id P → Single (s .names ++ d ∷ []) (s .annotations) → Sound start P s → Sound start P (label d s)
+  name-sound id d P s note on p single h = label-sound d P s note (λ t m. subst (λ (x : ℕ). (start < x) × (x ≤ s .last)) (sym (on t m)) (taken-range P s h id p)) single h
 
-  pub mark-sound : (id : ℕ) (d : Instruction) (P : List (ℕ × ℕ)) (s : State) → Note (s .last) d → ((t : ℕ) → List·Memᴰ t (targets (d ∷ [])) → t ≡ id) → 1 ≤ times id (s .declarations) + pending id P → Sound start P s → Sound start P (annotate d s)
-  mark-sound id d P s note on p h = annotate-sound d P s note (λ t m. subst (λ (x : ℕ). (start < x) × (x ≤ s .last)) (sym (on t m)) (taken-range P s h id p)) h
+  pub mark-sound : (id : ℕ) (d : Instruction) (P : List (ℕ × ℕ)) (s : State) → Note (s .last) d → ((t : ℕ) → List·Memᴰ t (targets (d ∷ [])) → t ≡ id) → 1 ≤ times id (s .declarations) + pending id P → Single (s .names) (s .annotations ++ d ∷ []) → Sound start P s → Sound start P (annotate d s)
+  mark-sound id d P s note on p single h = annotate-sound d P s note (λ t m. subst (λ (x : ℕ). (start < x) × (x ≤ s .last)) (sym (on t m)) (taken-range P s h id p)) single h

@@ -1,6 +1,7 @@
 -- Declaring a function type, a constant or a global keeps the state sound: each takes its id, finds what it names, and is declared
 -- under that id. The rules are chains of operations, so each proof is the chain of their lemmas, with `Grew` carrying over what was
 -- there before. A function record adds to the shared types alone (`Aside`), and void to them only where it returns void (`VoidsFor`).
+-- The ids of a global and of its wrapper are fresh, so they carry nothing before their own decorations, no two of which are the same.
 use Prim.Native.Nat.{ℕ, suc, zero, _/_, _%_, _<_, _≤_}
 use mathlib.Core.Path.{_≡_, refl, ap, _∙_, subst}
 use mathlib.Core.Logic.{_⊎_, inl, inr, ⊎-elim}
@@ -12,7 +13,7 @@ use native.Mathlib.Decide.{ℕ-discrete}
 use lib.Dec.{T, eqb, lit<, lit≤}
 use lib.ListN.{length, replicate, length-replicate, length-append}
 use Rattle.definition.specs.Choice.{orElse}
-use Rattle.definition.specs.Numbers.{DecorationBlock, DecorationNonWritable, DecorationNonReadable, DecorationBinding, DecorationDescriptorSet}
+use Rattle.definition.specs.Numbers.{OpDecorate, OpMemberDecorate, DecorationBlock, DecorationNonWritable, DecorationNonReadable, DecorationBinding, DecorationDescriptorSet}
 use Rattle.definition.specs.Instructions.{optional, name, decorate, typeStruct, typePointer, typeFunction, constantComposite, constantNull, variable}
 use Rattle.definition.specs.Reader.{uses}
 use Rattle.definition.specs.Sheet.{Options, Member, TypeInner, TypeEntry, Function, Expression, Global, Remap, storageSpace}
@@ -23,14 +24,15 @@ use Rattle.definition.specs.Shapes.{Kind, Key, sameKey, storageClass, ra
 use Rattle.definition.specs.State.{Composite, composite, function as functionKey, void, sameComposite, Valued, Constants, State, Got, lookup, takeId, annotate, declareAlone, entryId, entryIds}
 use Rattle.definition.specs.Finding.{find, enterComposite, enterNull, compositeOf, orNewNull, nullOf}
 use Rattle.definition.specs.Rules.{innerAt, labelIf, annotateIf, block, orNewType, sharedType, resultOf, declareFunction, noValue, valueAt, idsOf, kindOfScalar, GotValue, constantOf, enterValue, declareConstant, accessOf, decorateAccess, decorateBinding, isBound, needsWrapper, bindingBase, remapOf, PointerForm, direct, inWrapper, remapped, remappedForm, pointerFormOf, wrap, decorateMember, pointerOf, blockBase, getsNull, GotInit, initFor, declareGlobal}
-use Rattle.definition.specs.WellDeclared.{times, needs}
+use Rattle.definition.specs.WellDeclared.{times, needs, timesDecorated}
 use Rattle.definition.proofs.Truth.{pick-for}
 use Rattle.definition.proofs.Lists.{last-in, snoc-cases, same-itself, lookup-in, lookup-out, getD-in}
 use Rattle.definition.proofs.ByShape.{Formed, taken}
+use Rattle.definition.proofs.Repeats.{carried-snoc, carried-other}
 use Rattle.definition.proofs.Sizes.{W, Sized, under-more, SmallKind}
 use Rattle.definition.proofs.Sound.{Sound, isRoutine, routineOf, routine-sound, SmallOption, declared-snoc, take-sound, other-sound, constants-sound}
 use Rattle.definition.proofs.Finding.{GotId, AllDeclared, Writes, Keeps, SmallLiteral, one-declared, more-declared, just-declared, Grew, grew-refl, grew-trans, declare-grew, take-grew, constants-grew, Over, Entered, Grounded, free-grounded, Found, Finds, find-found, value-found, literal-found, low, small-literal-kind}
-use Rattle.definition.proofs.Marks.{GoodName, Taken, annotate-grew, annotateIf-grew, labelIf-grew, decorate-sound, decorateIf-sound, name-kept}
+use Rattle.definition.proofs.Marks.{GoodName, Taken, annotate-grew, annotateIf-grew, labelIf-grew, once-grew, decorate-sound, decorateIf-sound, once-sound, name-kept, fresh-bare, labelIf-notes, decorateIf-other}
 use Rattle.definition.proofs.Inners.{GoodInner, GoodTypes, class-small, kind-small}
 use Rattle.definition.proofs.Types.{Kept, Known, under-declared, member-kept}
 
@@ -425,26 +427,33 @@ module _ (start : ℕ) where
 
   -- ---- globals
 
-  access-kept : (o : Option ℕ) (id : ℕ) (P : List (ℕ × ℕ)) (s : State) → Taken id P s → Sound start P s → Kept start P s (decorateAccess o id s)
-  access-kept none id P s t h = record { sound = h; grew = grew-refl s }
-  access-kept (some a) id P s t h =
+  access-kept : (o : Option ℕ) (id : ℕ) (P : List (ℕ × ℕ)) (s : State) → Taken id P s → ((d : ℕ) → timesDecorated id d (s .annotations) ≡ 0) → Sound start P s → Kept start P s (decorateAccess o id s)
+  access-kept none id P s t new h = record { sound = h; grew = grew-refl s }
+  access-kept (some a) id P s t new h =
       let d = decorate id DecorationNonReadable [] in
       let b = annotateIf (eqb (a % 2) 0) d s in
       let w = annotateIf-grew (eqb (a % 2) 0) d s in
-      let hb = decorateIf-sound start id P (eqb (a % 2) 0) DecorationNonReadable s (lit≤ tt) t h in
+      let hb = decorateIf-sound start id P (eqb (a % 2) 0) DecorationNonReadable s (lit≤ tt) t (new DecorationNonReadable) h in
       record {
-        sound = decorateIf-sound start id P (eqb (a / 2 % 2) 0) DecorationNonWritable b (lit≤ tt) (omega (arith, w .still id)) hb;
+        sound = decorateIf-sound start id P (eqb (a / 2 % 2) 0) DecorationNonWritable b (lit≤ tt) (omega (arith, w .still id)) (decorateIf-other (eqb (a % 2) 0) id DecorationNonWritable DecorationNonReadable s refl ∙ new DecorationNonWritable) hb;
         grew = grew-trans w (annotateIf-grew (eqb (a / 2 % 2) 0) (decorate id DecorationNonWritable []) b);
       }
 
-  binding-kept : (b : Bool) (g : Global) (id : ℕ) (P : List (ℕ × ℕ)) (s : State) → GoodGlobal g → Taken id P s → Sound start P s → Kept start P s (decorateBinding b g id s)
-  binding-kept false g id P s k t h = record { sound = h; grew = grew-refl s }
-  binding-kept true g id P s k t h =
+  access-other : (o : Option ℕ) (id d : ℕ) (s : State) → eqb d DecorationNonReadable ≡ false → eqb d DecorationNonWritable ≡ false → timesDecorated id d (decorateAccess o id s .annotations) ≡ timesDecorated id d (s .annotations)
+  access-other none id d s e f = refl
+  access-other (some a) id d s e f =
+      decorateIf-other (eqb (a / 2 % 2) 0) id d DecorationNonWritable (annotateIf (eqb (a % 2) 0) (decorate id DecorationNonReadable []) s) f ∙ decorateIf-other (eqb (a % 2) 0) id d DecorationNonReadable s e
+
+  binding-kept : (b : Bool) (g : Global) (id : ℕ) (P : List (ℕ × ℕ)) (s : State) → GoodGlobal g → Taken id P s → timesDecorated id DecorationDescriptorSet (s .annotations) ≡ 0 → timesDecorated id DecorationBinding (s .annotations) ≡ 0 → Sound start P s
+      → Kept start P s (decorateBinding b g id s)
+  binding-kept false g id P s k t set binding h = record { sound = h; grew = grew-refl s }
+  binding-kept true g id P s k t set binding h =
       let d = decorate id DecorationDescriptorSet (g .group ∷ []) in
       let a = annotate d s in
-      let ha = decorate-sound start id P DecorationDescriptorSet (g .group ∷ []) s (lit≤ tt) (k .group, tt) (lit≤ tt) t h in
+      let ha = decorate-sound start id P DecorationDescriptorSet (g .group ∷ []) s (lit≤ tt) (k .group, tt) (lit≤ tt) t set h in
+      let f = carried-other OpDecorate (id ∷ []) DecorationBinding DecorationDescriptorSet [] (g .group ∷ []) (s .annotations) refl in
       record {
-        sound = decorate-sound start id P DecorationBinding (g .binding ∷ []) a (lit≤ tt) (k .binding, tt) (lit≤ tt) t ha;
+        sound = decorate-sound start id P DecorationBinding (g .binding ∷ []) a (lit≤ tt) (k .binding, tt) (lit≤ tt) t (f ∙ binding) ha;
         grew = grew-trans (annotate-grew d s) (annotate-grew (decorate id DecorationBinding (g .binding ∷ [])) a);
       }
 
@@ -455,9 +464,11 @@ module _ (start : ℕ) where
       let m : Member = record { type = t; offset = 0; name = none } in
       let a = annotate (block w) (takeId s) in
       let Q : List (ℕ × ℕ) = (9, w) ∷ P in
-      let ha = decorate-sound start w Q DecorationBlock [] (takeId s) (lit≤ tt) tt (lit≤ tt) (omega (arith, same-itself w)) (take-sound start 9 P s h) in
+      let bare = fresh-bare start P s h in
+      let ha = decorate-sound start w Q DecorationBlock [] (takeId s) (lit≤ tt) tt (lit≤ tt) (omega (arith, same-itself w)) (bare .on-id (DecorationBlock ∷ [])) (take-sound start 9 P s h) in
       let b = decorateMember false ts w 0 m a in
-      let kb = member-kept start false ts w 0 m Q a gs (lit≤ tt, tt) (lit≤ tt) (omega (arith, same-itself w)) ha in
+      let kb = member-kept start false ts w 0 m Q a gs (lit≤ tt, tt) (lit≤ tt) (omega (arith, same-itself w))
+      (λ d. omega (arith, carried-snoc OpMemberDecorate (w ∷ 0 ∷ d ∷ []) (s .annotations) (block w), bare .on-members (0 ∷ d ∷ []))) ha in
       let f = find (entry t) b in
       let r : Found start Q b (entry t) f = find-found start (entry t) b Q (lit< tt, o) (entered-more (kb .grew) e) (kb .sound) in
       let d = typeStruct w (f .id ∷ []) in
@@ -507,8 +518,8 @@ module _ (start : ℕ) where
       let f = find (entry t) s in
       let r = find-found start (entry t) s P ov e h in
       record {
-        sound = decorate-sound start (f .id) P DecorationBlock [] (f .state) (lit≤ tt) tt (lit≤ tt) (omega (arith, r .declared)) (r .sound);
-        grew = grew-trans (r .grew) (annotate-grew (block (f .id)) (f .state));
+        sound = once-sound start (f .id) P (f .state) (omega (arith, r .declared)) (r .sound);
+        grew = grew-trans (r .grew) (once-grew (f .id) (f .state));
       }
 
   init-found : (i : Option ℕ) (b : Bool) (t : ℕ) (s : State) (P : List (ℕ × ℕ)) → Over 0 P → Entered (s .types) t → ((c : ℕ) → List·Memᴰ c (initList i) → 1 ≤ times (valueAt s c .id) (s .declarations)) → Sound start P s
@@ -543,9 +554,10 @@ module _ (start : ℕ) where
       let w₁ = labelIf-grew (o .debug) (name id) (g .name) (takeId s) in
       let h₁ = name-kept start id P (o .debug) (g .name) (takeId s) (gg .name) (omega (arith, same-itself id)) (take-sound start 9 [] s h) in
       let s₂ = decorateAccess (accessOf ts g) id s₁ in
-      let k₂ = access-kept (accessOf ts g) id P s₁ (omega (arith, same-itself id)) h₁ in
+      let bare : (d : ℕ) → timesDecorated id d (s₁ .annotations) ≡ 0 = λ d. ap (timesDecorated id d) (labelIf-notes (o .debug) (name id) (g .name) (takeId s)) ∙ fresh-bare start [] s h .on-id (d ∷ []) in
+      let k₂ = access-kept (accessOf ts g) id P s₁ (omega (arith, same-itself id)) bare h₁ in
       let s₃ = decorateBinding (isBound g) g id s₂ in
-      let k₃ = binding-kept (isBound g) g id P s₂ gg (omega (arith, same-itself id)) (k₂ .sound) in
+      let k₃ = binding-kept (isBound g) g id P s₂ gg (omega (arith, same-itself id)) (access-other (accessOf ts g) id DecorationDescriptorSet s₁ refl refl ∙ bare DecorationDescriptorSet) (access-other (accessOf ts g) id DecorationBinding s₁ refl refl ∙ bare DecorationBinding) (k₂ .sound) in
       let w : Grew s s₃ = grew-trans (take-grew s) (grew-trans w₁ (grew-trans (k₂ .grew) (k₃ .grew))) in
       let r₃ = read-more w rd in
       let e₃ = r₃ .types .all (g .type) lt in

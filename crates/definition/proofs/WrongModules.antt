@@ -8,14 +8,14 @@ use mathlib.Core.Option.{Option, some, none}
 use native.Mathlib.Decide.{ℕ-discrete}
 use native.Mathlib.Omega.{arith}
 use lib.Dec.{T, lit<}
-use Rattle.definition.specs.Instructions.{Instruction, capability, typeVoid, typeFloat, typeInt, typeVector, typeMatrix, typeImage, typeFunction, decorate}
-use Rattle.definition.specs.Numbers.{CapabilityFloat16, CapabilityFloat64, CapabilityInt8, CapabilitySampled1D, CapabilityImage1D, CapabilityStorageImageExtendedFormats, DecorationArrayStride, Dim1D, Dim2D, ImageFormatUnknown, ImageFormatR32f, ImageFormatRg32f}
+use Rattle.definition.specs.Instructions.{Instruction, capability, typeVoid, typeFloat, typeInt, typeVector, typeMatrix, typeImage, typeStruct, typeFunction, decorate, memberDecorate}
+use Rattle.definition.specs.Numbers.{CapabilityFloat16, CapabilityFloat64, CapabilityInt8, CapabilitySampled1D, CapabilityImage1D, CapabilityStorageImageExtendedFormats, DecorationBlock, DecorationArrayStride, DecorationOffset, Dim1D, Dim2D, ImageFormatUnknown, ImageFormatR32f, ImageFormatRg32f}
 use Rattle.definition.specs.Reader.{uses, readModule, readAll, isString}
 use Rattle.definition.specs.ReadTypes.{declarationOf, readScalar, readVector, readType, readVoid, readFunction}
 use Rattle.definition.specs.Shapes.{Key, Shape, entry, scalar, matrix, image, sint, uint, float, kindOf, imageOf, shapeOf, sameKey}
 use Rattle.definition.specs.Sheet.{TypeInner, TypeEntry, Function, Scalar, Atomic, Matrix, Image}
 use Rattle.definition.specs.State.{Composite, function, void, sameNumbers, sameComposite, State, occurrences, lookup, entryIds}
-use Rattle.definition.specs.WellDeclared.{WellDeclared, EntriesDeclared, FunctionsDeclared, plainEntry, times, targets, targetOf, needs, needed, listedIn, listedBy}
+use Rattle.definition.specs.WellDeclared.{WellDeclared, EntriesDeclared, FunctionsDeclared, plainEntry, times, targets, targetOf, needs, needed, listedIn, listedBy, carried}
 
 -- numbers handed out for entries that are not declared
 missing : WellDeclared 0 2 [] → ⊥
@@ -85,6 +85,15 @@ half-needless h = omega (arith, h .capabilities CapabilityFloat16)
 stray : WellDeclared 0 2 (decorate 9 DecorationArrayStride (16 ∷ []) ∷ typeFloat 1 32 ∷ []) → ⊥
 unfolding times targets targetOf
 stray h = omega (arith, h .on-declared 9 (List·Memᴰ·head refl))
+
+-- Block twice on one id (paper 5), and two offsets of one member
+block-twice : WellDeclared 0 2 (decorate 1 DecorationBlock [] ∷ decorate 1 DecorationBlock [] ∷ typeStruct 1 [] ∷ []) → ⊥
+unfolding carried
+block-twice h = omega (arith, h .no-repeats 1 DecorationBlock)
+
+two-offsets : WellDeclared 0 3 (memberDecorate 2 0 DecorationOffset (0 ∷ []) ∷ memberDecorate 2 0 DecorationOffset (4 ∷ []) ∷ typeFloat 1 32 ∷ typeStruct 2 (1 ∷ []) ∷ []) → ⊥
+unfolding carried
+two-offsets h = omega (arith, h .no-member-repeats 2 0 DecorationOffset)
 
 -- ---- entries, and the ids that a state has for them
 

@@ -1,5 +1,5 @@
--- P1 to P12 of "From sheet to words", with one row of "Seen in class" and three of paper 2, as rows of one table, proved together by
--- one computed test. Paper 3's rows stand in two tables of their own: words with their lists, and opcodes with their counts.
+-- P1 to P12 of "From sheet to words", with one row of "Seen in class" and three each of papers 2 and 5, as rows of one table, proved
+-- together by one computed test. Paper 3's rows stand in two tables of their own: words with their lists, and opcodes with their counts.
 use Prim.Native.Nat.{ℕ, _+_, _-_}
 use mathlib.Core.Bool.{Bool, true, false, _&&_, not, Bool·beq}
 use mathlib.Core.List.{List, [], _∷_, _++_}
@@ -12,7 +12,7 @@ use Rattle.definition.specs.Finding.{formatCapabilities, dimCapabilities
 use Rattle.definition.specs.Instructions.{words, allWords, packed, put, putCount}
 use Rattle.definition.specs.Literals.{sameLiteral}
 use Rattle.definition.specs.Operations.{recordTest, declareRecord, judged, check, declare, wrapped}
-use Rattle.definition.specs.Rules.{declareMembers, anyDynamic, declareType, idsOf, sharedType, declareFunction, constantOf, declareConstant, endsDynamic, needsWrapper, remapOf, declareGlobal}
+use Rattle.definition.specs.Rules.{declareMembers, anyDynamic, blocked, declareType, idsOf, sharedType, declareFunction, constantOf, declareConstant, endsDynamic, needsWrapper, remapOf, declareGlobal}
 use Rattle.definition.specs.Shapes.{kindOf, formats, sameKey, imageOf}
 use Rattle.definition.specs.Sheet.{recordAt, afterRecord, tagRank, u16sAt, u32sAt, membersAt, membersEnd, typeFields, literalFields, functionFields, constantFields, globalFields, availableFields, remapFields, entryOf}
 use Rattle.definition.specs.State.{sameNumbers, sameComposite, occurrences, listed, lookup, capabilityInstructions, instructions, moduleWords, entryIds}
@@ -115,11 +115,17 @@ rows =
     ∷ counts (0x01 ∷ 0x00 ∷ 0x00 ∷ 0x00 ∷ 0x00 ∷ 0x00 ∷ 0x00 ∷ 0x04 ∷ 0x30 ∷ 0xff ∷ 0xff ∷ 0x00 ∷ 0x00 ∷ 0x04 ∷ 0x30 ∷ 0xff ∷ 0xff ∷ 0x00 ∷ []) 10 3
     -- paper 2: a constant above a function record is 6
     ∷ refuses (0x01 ∷ 0x00 ∷ 0x00 ∷ 0x00 ∷ 0x00 ∷ 0x00 ∷ 0x00 ∷ 0x03 ∷ 0x40 ∷ 0x04 ∷ 0x01 ∷ 0x00 ∷ 0x04 ∷ 0x30 ∷ 0xff ∷ 0xff ∷ 0x00 ∷ []) 6
+    -- paper 5: two Storage globals over one binding array: Block on its base (1) once
+    ∷ writes (0x01 ∷ 0x00 ∷ 0x00 ∷ 0x00 ∷ 0x00 ∷ 0x00 ∷ 0x00 ∷ 0x07 ∷ 0x17 ∷ 0xff ∷ 0x00 ∷ 0x00 ∷ 0x00 ∷ 0x00 ∷ 0x00 ∷ 0x00 ∷ 0x08 ∷ 0x1c ∷ 0xff ∷ 0x00 ∷ 0x00 ∷ 0x00 ∷ 0x00 ∷ 0x00 ∷ 0x01 ∷ 0x00 ∷ 0x11 ∷ 0x60 ∷ 0xff ∷ 0x00 ∷ 0x01 ∷ 0x04 ∷ 0x03 ∷ 0x00 ∷ 0x00 ∷ 0x00 ∷ 0x00 ∷ 0x00 ∷ 0x00 ∷ 0x00 ∷ 0x00 ∷ 0x00 ∷ 0xff ∷ 0xff ∷ 0x00 ∷ 0x11 ∷ 0x60 ∷ 0xff ∷ 0x00 ∷ 0x01 ∷ 0x04 ∷ 0x03 ∷ 0x00 ∷ 0x00 ∷ 0x00 ∷ 0x00 ∷ 0x00 ∷ 0x00 ∷ 0x00 ∷ 0x00 ∷ 0x00 ∷ 0xff ∷ 0xff ∷ []) (0x07230203 ∷ 0x00010300 ∷ 0x0000001c ∷ 0x00000008 ∷ 0x00000000 ∷ 0x00030047 ∷ 0x00000001 ∷ 0x00000002 ∷ 0x0002001e ∷ 0x00000001 ∷ 0x00040015 ∷ 0x00000004 ∷ 0x00000020 ∷ 0x00000000 ∷ 0x0004002b ∷ 0x00000004 ∷ 0x00000003 ∷ 0x00000001 ∷ 0x0004001c ∷ 0x00000002 ∷ 0x00000001 ∷ 0x00000003 ∷ 0x00040020 ∷ 0x00000006 ∷ 0x0000000c ∷ 0x00000002 ∷ 0x0004003b ∷ 0x00000006 ∷ 0x00000005 ∷ 0x0000000c ∷ 0x0004003b ∷ 0x00000006 ∷ 0x00000007 ∷ 0x0000000c ∷ [])
+    -- paper 5: a struct (3) with a dynamic array has Block by itself, and no second as the base of a Storage global's binding array
+    ∷ writes (0x01 ∷ 0x00 ∷ 0x00 ∷ 0x00 ∷ 0x00 ∷ 0x00 ∷ 0x00 ∷ 0x04 ∷ 0x10 ∷ 0xff ∷ 0x02 ∷ 0x04 ∷ 0x00 ∷ 0x0c ∷ 0x16 ∷ 0xff ∷ 0x00 ∷ 0x00 ∷ 0x00 ∷ 0x00 ∷ 0x00 ∷ 0x00 ∷ 0x00 ∷ 0x00 ∷ 0x00 ∷ 0x04 ∷ 0x00 ∷ 0x0e ∷ 0x17 ∷ 0xff ∷ 0x00 ∷ 0x00 ∷ 0x00 ∷ 0x04 ∷ 0x01 ∷ 0x00 ∷ 0x01 ∷ 0x00 ∷ 0x00 ∷ 0x00 ∷ 0x00 ∷ 0xff ∷ 0x00 ∷ 0x08 ∷ 0x1c ∷ 0xff ∷ 0x00 ∷ 0x02 ∷ 0x00 ∷ 0x00 ∷ 0x00 ∷ 0x01 ∷ 0x00 ∷ 0x11 ∷ 0x60 ∷ 0xff ∷ 0x00 ∷ 0x03 ∷ 0x04 ∷ 0x03 ∷ 0x00 ∷ 0x00 ∷ 0x00 ∷ 0x00 ∷ 0x00 ∷ 0x00 ∷ 0x00 ∷ 0x00 ∷ 0x00 ∷ 0xff ∷ 0xff ∷ []) (0x07230203 ∷ 0x00010300 ∷ 0x0000001c ∷ 0x00000009 ∷ 0x00000000 ∷ 0x00040047 ∷ 0x00000002 ∷ 0x00000006 ∷ 0x00000004 ∷ 0x00050048 ∷ 0x00000003 ∷ 0x00000000 ∷ 0x00000023 ∷ 0x00000000 ∷ 0x00030047 ∷ 0x00000003 ∷ 0x00000002 ∷ 0x00030016 ∷ 0x00000001 ∷ 0x00000020 ∷ 0x0003001d ∷ 0x00000002 ∷ 0x00000001 ∷ 0x0003001e ∷ 0x00000003 ∷ 0x00000002 ∷ 0x00040015 ∷ 0x00000006 ∷ 0x00000020 ∷ 0x00000000 ∷ 0x0004002b ∷ 0x00000006 ∷ 0x00000005 ∷ 0x00000001 ∷ 0x0004001c ∷ 0x00000004 ∷ 0x00000003 ∷ 0x00000005 ∷ 0x00040020 ∷ 0x00000008 ∷ 0x0000000c ∷ 0x00000004 ∷ 0x0004003b ∷ 0x00000008 ∷ 0x00000007 ∷ 0x0000000c ∷ [])
+    -- paper 5: two bases (1, 2), and Block on each
+    ∷ writes (0x01 ∷ 0x00 ∷ 0x00 ∷ 0x00 ∷ 0x00 ∷ 0x00 ∷ 0x00 ∷ 0x07 ∷ 0x17 ∷ 0xff ∷ 0x00 ∷ 0x00 ∷ 0x00 ∷ 0x00 ∷ 0x00 ∷ 0x00 ∷ 0x04 ∷ 0x10 ∷ 0xff ∷ 0x02 ∷ 0x04 ∷ 0x00 ∷ 0x08 ∷ 0x1c ∷ 0xff ∷ 0x00 ∷ 0x00 ∷ 0x00 ∷ 0x00 ∷ 0x00 ∷ 0x01 ∷ 0x00 ∷ 0x08 ∷ 0x1c ∷ 0xff ∷ 0x00 ∷ 0x01 ∷ 0x00 ∷ 0x00 ∷ 0x00 ∷ 0x01 ∷ 0x00 ∷ 0x11 ∷ 0x60 ∷ 0xff ∷ 0x00 ∷ 0x02 ∷ 0x04 ∷ 0x03 ∷ 0x00 ∷ 0x00 ∷ 0x00 ∷ 0x00 ∷ 0x00 ∷ 0x00 ∷ 0x00 ∷ 0x00 ∷ 0x00 ∷ 0xff ∷ 0xff ∷ 0x00 ∷ 0x11 ∷ 0x60 ∷ 0xff ∷ 0x00 ∷ 0x03 ∷ 0x04 ∷ 0x03 ∷ 0x00 ∷ 0x00 ∷ 0x00 ∷ 0x00 ∷ 0x00 ∷ 0x00 ∷ 0x00 ∷ 0x00 ∷ 0x00 ∷ 0xff ∷ 0xff ∷ []) (0x07230203 ∷ 0x00010300 ∷ 0x0000001c ∷ 0x0000000b ∷ 0x00000000 ∷ 0x00030047 ∷ 0x00000001 ∷ 0x00000002 ∷ 0x00030047 ∷ 0x00000002 ∷ 0x00000002 ∷ 0x0002001e ∷ 0x00000001 ∷ 0x00030016 ∷ 0x00000002 ∷ 0x00000020 ∷ 0x00040015 ∷ 0x00000005 ∷ 0x00000020 ∷ 0x00000000 ∷ 0x0004002b ∷ 0x00000005 ∷ 0x00000004 ∷ 0x00000001 ∷ 0x0004001c ∷ 0x00000003 ∷ 0x00000001 ∷ 0x00000004 ∷ 0x0004001c ∷ 0x00000006 ∷ 0x00000002 ∷ 0x00000004 ∷ 0x00040020 ∷ 0x00000008 ∷ 0x0000000c ∷ 0x00000003 ∷ 0x0004003b ∷ 0x00000008 ∷ 0x00000007 ∷ 0x0000000c ∷ 0x00040020 ∷ 0x0000000a ∷ 0x0000000c ∷ 0x00000006 ∷ 0x0004003b ∷ 0x0000000a ∷ 0x00000009 ∷ 0x0000000c ∷ [])
     ∷ []
 
 -- all rows are right
 pub examples : T (every right rows)
-unfolding ℕ-discrete right rows u16At u32At u64At nameAt nameEnd formatCapabilities dimCapabilities literalWith findAt find compositeOf nullOf words allWords packed put putCount sameLiteral recordTest declareRecord judged check declare wrapped declareMembers anyDynamic declareType idsOf sharedType entryIds declareFunction constantOf declareConstant endsDynamic needsWrapper remapOf declareGlobal kindOf formats sameKey imageOf recordAt afterRecord tagRank u16sAt u32sAt membersAt membersEnd typeFields literalFields functionFields constantFields globalFields availableFields remapFields entryOf sameNumbers sameComposite occurrences listed lookup capabilityInstructions instructions moduleWords headerTest add addRecord noRecord placeTest memberNames scalarFits spaceFits classFits bindingFits memberTypes sameBytes sameRecord typeRead remapRead entryTest readingTest records membersFit constantFits globalFits fitnessTest octets utf8 noZero zeroables zeroable
+unfolding ℕ-discrete right rows u16At u32At u64At nameAt nameEnd formatCapabilities dimCapabilities literalWith findAt find compositeOf nullOf words allWords packed put putCount sameLiteral recordTest declareRecord judged check declare wrapped declareMembers anyDynamic blocked declareType idsOf sharedType entryIds declareFunction constantOf declareConstant endsDynamic needsWrapper remapOf declareGlobal kindOf formats sameKey imageOf recordAt afterRecord tagRank u16sAt u32sAt membersAt membersEnd typeFields literalFields functionFields constantFields globalFields availableFields remapFields entryOf sameNumbers sameComposite occurrences listed lookup capabilityInstructions instructions moduleWords headerTest add addRecord noRecord placeTest memberNames scalarFits spaceFits classFits bindingFits memberTypes sameBytes sameRecord typeRead remapRead entryTest readingTest records membersFit constantFits globalFits fitnessTest octets utf8 noZero zeroables zeroable
 examples = tt
 
 -- ---- paper 3: words and their lists

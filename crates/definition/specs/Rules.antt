@@ -7,7 +7,7 @@ use lib.Dec.{eqb}
 use lib.ListN.{length, getD, replicate}
 use Rattle.definition.specs.Choice.{pick, orElse, among}
 use Rattle.definition.specs.Bytes.{Name}
-use Rattle.definition.specs.Numbers.{DecorationBlock, DecorationColMajor, DecorationArrayStride, DecorationMatrixStride, DecorationNonWritable, DecorationNonReadable, DecorationBinding, DecorationDescriptorSet, DecorationOffset}
+use Rattle.definition.specs.Numbers.{OpDecorate, DecorationBlock, DecorationColMajor, DecorationArrayStride, DecorationMatrixStride, DecorationNonWritable, DecorationNonReadable, DecorationBinding, DecorationDescriptorSet, DecorationOffset}
 use Rattle.definition.specs.Literals.{u32}
 use Rattle.definition.specs.Instructions.{Instruction, name, memberName, decorate, memberDecorate, typeArray, typeRuntimeArray, typeStruct, typePointer, typeVoid, typeFunction, variable}
 use Rattle.definition.specs.Sheet.{Options, Member, TypeInner, TypeEntry, Function, Expression, Global, Remap, Entry, privateSpace, workGroupSpace, uniformSpace, storageSpace, pushConstantSpace}
@@ -128,8 +128,29 @@ abbrev pub annotateIf : Bool → Instruction → State → State
 annotateIf false i s = s
 annotateIf true i s = annotate i s
 
+-- ---- Block
+
 abbrev pub block : ℕ → Instruction
 block id = decorate id DecorationBlock []
+
+-- the id on which an instruction puts Block: OpDecorate's operands are a target and a decoration
+abbrev pub blockTarget : List ℕ → List ℕ
+blockTarget [] = []
+blockTarget (t ∷ []) = []
+blockTarget (t ∷ (d ∷ xs)) = pick (eqb d DecorationBlock) (t ∷ []) []
+
+abbrev pub blockedBy : Instruction → List ℕ
+blockedBy i = pick (eqb (i .opcode) OpDecorate) (blockTarget (i .operands)) []
+
+-- the ids that carry Block, in order of writing
+unfoldable pub blocked : List Instruction → List ℕ
+blocked [] = []
+blocked (i ∷ is) = blockedBy i ++ blocked is
+
+-- paper 5: "The first writing stays and later ones are dropped."; what is dropped is Block alone, as nothing else is written twice on
+-- an id or a member (`no-repeats`, `no-member-repeats` of demand 3)
+abbrev pub blockOnce : ℕ → State → State
+blockOnce id s = pick (among id (blocked (s .annotations))) s (annotate (block id) s)
 
 -- ---- aggregates: "aggregate entries never share"; id is the one taken for the entry
 
@@ -363,11 +384,11 @@ pointerOf direct ts g s = find (shape (pointer (g .type) (storageClass (g .space
 pointerOf inWrapper ts g s = wrap ts (g .type) (storageClass (g .space)) s
 pointerOf (remapped b n) ts g s = find (shape (bindingPointer b n (g .space) (g .access))) s
 
--- "each Storage global of BindingArray type puts Block on the base"
+-- "each Storage global of BindingArray type puts Block on the base", where it has none yet (paper 5)
 abbrev pub blockBase : Bool → Option ℕ → State → State
 blockBase false b s = s
 blockBase true none s = s
-blockBase true (some b) s = let g = find (entry b) s in annotate (block (g .id)) (g .state)
+blockBase true (some b) s = let g = find (entry b) s in blockOnce (g .id) (g .state)
 
 -- "A Private global without init, or a WorkGroup one under flag bit 1, gets a null.", "a global's null comes after its pointer"
 abbrev pub getsNull : Options → Global → Bool

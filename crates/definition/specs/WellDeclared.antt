@@ -125,6 +125,30 @@ abbrev pub NoEqualTypes : List Instruction → Type 0
 NoEqualTypes [] = Unit
 NoEqualTypes (i ∷ is) = ((j : Instruction) → List·Memᴰ j is → EqualTypes i j → ⊥) × NoEqualTypes is
 
+-- ---- "no id carries the same decoration twice, and no member either" (paper 5): "the same" by its number
+
+-- the first operands of an instruction
+abbrev pub begins : List ℕ → List ℕ → Bool
+begins [] ys = true
+begins (x ∷ xs) [] = false
+begins (x ∷ xs) (y ∷ ys) = eqb x y && begins xs ys
+
+-- how many instructions of an opcode have first operands
+abbrev pub carries : ℕ → List ℕ → Instruction → ℕ
+carries o xs i = pick (eqb (i .opcode) o && begins xs (i .operands)) 1 0
+
+unfoldable pub carried : ℕ → List ℕ → List Instruction → ℕ
+carried o xs [] = 0
+carried o xs (i ∷ is) = carries o xs i + carried o xs is
+
+-- how often an id carries a decoration: OpDecorate's operands are Target, Decoration and what the decoration takes
+abbrev pub timesDecorated : ℕ → ℕ → List Instruction → ℕ
+timesDecorated id d is = carried OpDecorate (id ∷ d ∷ []) is
+
+-- .. and a member: OpMemberDecorate's are Structure Type, Member, Decoration and the same
+abbrev pub timesMemberDecorated : ℕ → ℕ → ℕ → List Instruction → ℕ
+timesMemberDecorated id m d is = carried OpMemberDecorate (id ∷ m ∷ d ∷ []) is
+
 -- ---- what a reader finds declared
 
 pub record WellDeclared (start bound : ℕ) (is : List Instruction) : Type 0 where
@@ -139,6 +163,9 @@ pub record WellDeclared (start bound : ℕ) (is : List Instruction) : Type 0 whe
   pub capabilities : (c : ℕ) → occurrences c (listedIn is) ≡ min 1 (needed c is)
   -- "no two type declarations .. equal"
   pub no-equal-types : NoEqualTypes is
+  -- paper 5: "no id carries the same decoration twice, and no member either"
+  pub no-repeats : (i d : ℕ) → timesDecorated i d is ≤ 1
+  pub no-member-repeats : (i m d : ℕ) → timesMemberDecorated i m d is ≤ 1
 
 -- ---- entries of "such types"
 

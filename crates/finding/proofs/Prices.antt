@@ -16,6 +16,7 @@ pub record AtMost (c d : Cost) : Type 0 where
   pub nulls : c .nulls ≤ d .nulls
   pub values : c .values ≤ d .values
   pub composites : c .composites ≤ d .composites
+  pub blocked : c .blocked ≤ d .blocked
   pub parts : c .parts ≤ d .parts
   pub capabilities : c .capabilities ≤ d .capabilities
   pub names : c .names ≤ d .names

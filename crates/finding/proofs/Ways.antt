@@ -57,7 +57,7 @@ put-declared l sm id x y w u v S S₁ S₂ a b ec p q id′ x′ y′ m z ei ex 
     record {
       grown = omega (arith, p .grown, q .grown, d .grown);
       held = λ T s h. subst (Held (more declarations v m) T (Lent.back S₂ (sectionAt declarations v + v .declarations) z)) (declared-listed i (asList a) (asList b) (capabilitiesOf l) ec s)
-          (d .held i e T (listing (asList b) (listing (asList a) s)) (q .held T (listing (asList a) s) (p .held T s h)));
+          (d .held i e tt T (listing (asList b) (listing (asList a) s)) (q .held T (listing (asList a) s) (p .held T s h)));
     }
 
 -- ---- what is there already

@@ -44,6 +44,7 @@ declaredCost l = record {
   nulls = 0;
   values = 0;
   composites = 0;
+  blocked = 0;
   parts = 0;
   capabilities = 2 + 2 * rankOf l;
   names = 0;

@@ -1,7 +1,12 @@
 -- A record's entry, by its rank: it is read by its kind's fields. What tests 5 to 12 tell of it stands in `sheet` (Told).
+use Prim.Native.Nat.{_+_, _≤_}
 use mathlib.Core.Path.{_≡_}
+use native.Mathlib.Omega.{arith}
+use lib.ListN.{length}
 use Rattle.definition.specs.Bytes.{nameEnd}
 use Rattle.definition.specs.Sheet.{Record, Fields, Entry, entryOf, tagRank, mapFields, typeEntry, typeFields, constantFields, globalFields, availableFields, remapFields, available, remap, type, constant, global}
+use Rattle.definition.specs.Tests.{Seen, readingTest}
+use Rattle.sheet.proofs.Told.{told}
 
 -- a record's entry, by its rank
 module _ (r : Record) where
@@ -33,3 +38,8 @@ module _ (r : Record) where
   pub is-remap : tagRank (r .tag) ≡ 2 → entryOf r ≡ mapFields remap (remapFields (r .body))
   unfolding entryOf
   is-remap e = rw e
+
+  -- fifteen bytes stand behind a global's name
+  pub global-long : tagRank (r .tag) ≡ 6 → (n : Seen) → readingTest n r ≡ 0 → 3 ≤ length (r .body)
+  unfolding globalFields
+  global-long e n passed = let w : nameEnd (r .body) 0 + 15 ≡ length (r .body) = told n r globalOf (is-global e) passed .whole in omega (arith, w)

@@ -3,6 +3,7 @@
 use Prim.Native.Nat.{ℕ, _+_, _-_, _≤_, _<_}
 use mathlib.Core.Path.{_≡_, refl, sym, _∙_, subst}
 use mathlib.Core.Bool.{true, false}
+use mathlib.Core.Logic.{⊎-elim}
 use mathlib.Core.List.{List, []}
 use mathlib.Core.Option.{none}
 use native.Mathlib.Omega.{arith}
@@ -34,6 +35,7 @@ use Rattle.writer.specs.Steps.{fresh}
 use Rattle.sheet_writer.specs.declared.RecordOutcome.{RecordOutcome}
 use Rattle.sheet_writer.specs.Turning.{Before, Ready, RecordWritten, costAt}
 use Rattle.sheet_writer.specs.Whole.{recordsOf, beforeBound, Capacity, GlobalsFit, SheetFits}
+use Rattle.sheet_writer.proofs.Given.{global-long}
 use Rattle.sheet_writer.proofs.Rooms.{Used, no-room, roomy}
 
 -- what was read and what the rules have come to
@@ -176,7 +178,7 @@ module _ (s T₀ S₀ m₀ : List ℕ) (p₀ : Places) (nr nb : ℕ) (T S m : Li
       tested-room z =
           let q = placed-of seen (recordAt rest) z in
           roomy s T S nr nb at k w (h .used) (h .few) (cap .for-bytes (h .small)) (cap .for-records) (omega (arith, cap .tables, h .tables)) (omega (arith, cap .sections, h .sections)) (h .small)
-          seen (counted s p k (h .functions) (h .ample) (h .few) (h .function-count)) l (omega arith) inside (tagRank (recordAt rest .tag)) (q .ranked) (rank-most (recordAt rest .tag)) (λ e. omega (arith, function-long seen (recordAt rest) e z)) (q .room)
+          seen (counted s p k (h .functions) (h .ample) (h .few) (h .function-count)) l (omega arith) inside (tagRank (recordAt rest .tag)) (q .ranked) (rank-most (recordAt rest .tag)) (⊎-elim (λ e. omega (arith, function-long seen (recordAt rest) e z)) (λ e. omega (arith, global-long (recordAt rest) e seen z))) (q .room)
 
       pub ready : (i : ℕ) → HashFor (recordAt rest) i → Ready s (p .remaps) (p .types) k rest i T S m w
       ready i hi = record {

@@ -87,7 +87,7 @@ module _ {s rs ts : List ℕ} {k : Counts} {rest : List ℕ} {i : ℕ} {T S m : 
 
     -- ---- what each kind asks of its record
 
-    pub type-asks : tagRank (r .tag) ≡ 3 → (k .types ≤ length ts) × ((k .types < 65536) × (TypeTested r × Room (recordCost l) w T S))
+    pub type-asks : tagRank (r .tag) ≡ 3 → (k .types ≤ length ts) × ((k .types < 65536) × (TypeTested r × Room (recordCost 1 l) w T S))
     type-asks e =
         let t = passed-told (typeOf r) (is-type r e) in
         (few-types, (omega (arith, ready .few), (record { whole = t .whole; values = t .values }, rank-room 3 e)))
@@ -98,12 +98,12 @@ module _ {s rs ts : List ℕ} {k : Counts} {rest : List ℕ} {i : ℕ} {T S m : 
         let h = function-whole (ready .seen) r e tested in
         record { rows = omega (arith, x .rows, h); words = omega (arith, x .words, h) }
 
-    pub constant-asks : tagRank (r .tag) ≡ 5 → (k .types ≤ length ts) × (ConstantTested (k .types) r × (Room (recordCost l) w T S × Memo us m))
+    pub constant-asks : tagRank (r .tag) ≡ 5 → (k .types ≤ length ts) × (ConstantTested (k .types) r × (Room (recordCost 0 l) w T S × Memo us m))
     constant-asks e =
         let t = passed-told (constantOf r) (is-constant r e) in
         (few-types, (record { whole = t .whole; values = t .values; types = rw (← counted-types) (names-types (ready .seen) r (constantOf r) t); small = body-few rest (ready .small) }, (rank-room 5 e, ready .memo)))
 
-    pub global-asks : tagRank (r .tag) ≡ 6 → (k .types ≤ length ts) × ((k .remaps ≤ length rs) × (GlobalTested (k .types) (r .body) × (Room (recordCost l) w T S × Memo us m)))
+    pub global-asks : tagRank (r .tag) ≡ 6 → (k .types ≤ length ts) × ((k .remaps ≤ length rs) × (GlobalTested (k .types) (r .body) × (Room (recordCost 2 l) w T S × Memo us m)))
     global-asks e =
         let t = passed-told (globalOf r) (is-global r e) in
         (few-types, (ready .stored .remaps, (record { whole = t .whole; values = t .values; type = one-below _ (k .types) (rw (← counted-types) (names-types (ready .seen) r (globalOf r) t)) }, (rank-room 6 e, ready .memo))))
@@ -129,7 +129,7 @@ module _ {s rs ts : List ℕ} {k : Counts} {rest : List ℕ} {i : ℕ} {T S m : 
         written = g;
       }
 
-      pub type-comes : tagRank (r .tag) ≡ 3 → {c : RecordOutcome} → Memo us m′ → ComesTo (TestsType a r) (λ v. Kept (recordCost l) (declareType (o .debug) us (recordType r)) w T S v T′ S′) c
+      pub type-comes : tagRank (r .tag) ≡ 3 → {c : RecordOutcome} → Memo us m′ → ComesTo (TestsType a r) (λ v. Kept (recordCost 1 l) (declareType (o .debug) us (recordType r)) w T S v T′ S′) c
           → RecordWritten s rs ts k a rest o w T S c T′ S′ m′
       unfolding fitnessTest
       type-comes e {c = c} memo d = comes c memo (λ n b x h. d .told (n .available) (b .available) ∙ sym (ap (λ (f : Fields Entry). fitnessTest n x (f .value)) (is-type r e))) (λ z. record {
@@ -148,7 +148,7 @@ module _ {s rs ts : List ℕ} {k : Counts} {rest : List ℕ} {i : ℕ} {T S m : 
       })
 
       pub constant-comes : tagRank (r .tag) ≡ 5 → {c : RecordOutcome} → Memo us m′
-          → ComesTo (TestsUnfit (λ x. constantFits us x (Defined.constantFields (r .tag) (r .body) .value)) w T) (λ v. ConstantWritten (recordCost l) us (Defined.constantFields (r .tag) (r .body) .value) w T S v T′ S′) c
+          → ComesTo (TestsUnfit (λ x. constantFits us x (Defined.constantFields (r .tag) (r .body) .value)) w T) (λ v. ConstantWritten (recordCost 0 l) us (Defined.constantFields (r .tag) (r .body) .value) w T S v T′ S′) c
           → RecordWritten s rs ts k a rest o w T S c T′ S′ m′
       unfolding fitnessTest
       constant-comes e {c = c} memo d = comes c memo (λ n b x h.
@@ -160,7 +160,7 @@ module _ {s rs ts : List ℕ} {k : Counts} {rest : List ℕ} {i : ℕ} {T S m : 
           })
 
       pub global-comes : tagRank (r .tag) ≡ 6 → {c : RecordOutcome} → Memo us m′
-          → ComesTo (TestsUnfit (λ x. globalFits us x (globalIn (r .body))) w T) (λ v. GlobalKept (recordCost l) o us (map (remapFrom s) (take (k .remaps) rs)) (globalIn (r .body)) w T S v T′ S′) c
+          → ComesTo (TestsUnfit (λ x. globalFits us x (globalIn (r .body))) w T) (λ v. GlobalKept (recordCost 2 l) o us (map (remapFrom s) (take (k .remaps) rs)) (globalIn (r .body)) w T S v T′ S′) c
           → RecordWritten s rs ts k a rest o w T S c T′ S′ m′
       unfolding fitnessTest
       global-comes e {c = c} memo d = comes c memo (λ n b x h.

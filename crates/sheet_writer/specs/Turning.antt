@@ -4,7 +4,7 @@ use mathlib.Core.Path.{_≡_}
 use mathlib.Core.Bool.{Bool}
 use mathlib.Core.List.{List}
 use mathlib.Core.Option.{Option}
-use lib.Dec.{eqb, ltb}
+use lib.Dec.{eqb}
 use lib.ListN.{length}
 use Rattle.definition.specs.Bytes.{nameEnd}
 use Rattle.definition.specs.Choice.{pick, unless}
@@ -32,9 +32,14 @@ pub record Before (s rs ts : List ℕ) (k : Counts) (a : Available) (n : Seen) :
   pub looked : Looked s rs ts k n
   pub available : Flagged (n .available) a
 
--- a record of n bytes and a rank: Available and Remap are not declared, and a function record may declare void too
+-- a record of n bytes and a rank: Available and Remap are not declared, and a function record may declare void too; Block goes on a
+-- struct, or on a global's wrapper and base
 abbrev pub entryCost : ℕ → ℕ → Cost
-entryCost rank n = pick (eqb rank 4) (recordCost n ⊕ aComposite 0) (pick (ltb 2 rank) (recordCost n) noCost)
+entryCost rank n =
+    pick (eqb rank 3) (recordCost 1 n)
+    (pick (eqb rank 4) (recordCost 0 n ⊕ aComposite 0)
+    (pick (eqb rank 5) (recordCost 0 n)
+    (pick (eqb rank 6) (recordCost 2 n) noCost)))
 
 -- the cost of the record at the front of what is left
 abbrev pub costAt : List ℕ → Cost

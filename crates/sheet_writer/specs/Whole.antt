@@ -31,7 +31,7 @@ recordsMost = typesMost + 2 * functionsMost + constantsMost + globalsMost
 pub record Capacity (s : List ℕ) (records bytes : ℕ) (T S m : List ℕ) : Type 0 where
   pub for-bytes : length s ≤ sheetMost → length s ≤ bytes
   pub for-records : (length s ≤ 3 * records) ⊎ (recordsMost ≤ records)
-  pub tables : 19 * records + bytes ≤ length T
+  pub tables : 20 * records + bytes ≤ length T
   pub sections : 7 * bytes ≤ length S
   pub memo : (j : ℕ) → getD m j 0 ≡ 0
   pub memo-length : typesMost ≤ length m

@@ -73,8 +73,8 @@ fn write_type(
     body: &[u8],
     debug: bool,
 ) -> RecordOutcome
-    requires { ⌜ (n ≤ length (now types)) × ((n < 65536) × (TypeTested (recordOf tag (now body)) × Room (recordCost (length (now body) + 3)) w (now tables) (now sections))) ⌝ }
-    ensures { λ r. ⌜ ComesTo (TestsType available (recordOf tag (now (body .entry)))) (λ v. Kept (recordCost (length (now (body .entry)) + 3)) (declareType debug (typesFrom (now (s .entry)) (now (types .entry)) n) (typeOfRecord (recordOf tag (now (body .entry))))) w (now (tables .entry)) (now (sections .entry)) v (now (tables .exit)) (now (sections .exit))) r ⌝ }
+    requires { ⌜ (n ≤ length (now types)) × ((n < 65536) × (TypeTested (recordOf tag (now body)) × Room (recordCost 1 (length (now body) + 3)) w (now tables) (now sections))) ⌝ }
+    ensures { λ r. ⌜ ComesTo (TestsType available (recordOf tag (now (body .entry)))) (λ v. Kept (recordCost 1 (length (now (body .entry)) + 3)) (declareType debug (typesFrom (now (s .entry)) (now (types .entry)) n) (typeOfRecord (recordOf tag (now (body .entry))))) w (now (tables .entry)) (now (sections .entry)) v (now (tables .exit)) (now (sections .exit))) r ⌝ }
 {
     let ty = entries::types::inner_of(tag, body);
     if !type_fits(available, tag, ty) {
@@ -102,8 +102,8 @@ fn write_constant(
     tag: u8,
     body: &[u8],
 ) -> RecordOutcome
-    requires { ⌜ (n ≤ length (now types)) × (ConstantTested n (recordOf tag (now body)) × (Room (recordCost (length (now body) + 3)) w (now tables) (now sections) × Memo (typesFrom (now s) (now types) n) (now memo))) ⌝ }
-    ensures { λ r. ⌜ ComesTo (TestsUnfit (λ x. constantFits (typesFrom (now (s .entry)) (now (types .entry)) n) x (constantFields tag (now (body .entry)) .value)) w (now (tables .entry))) (λ v. ConstantWritten (recordCost (length (now (body .entry)) + 3)) (typesFrom (now (s .entry)) (now (types .entry)) n) (constantFields tag (now (body .entry)) .value) w (now (tables .entry)) (now (sections .entry)) v (now (tables .exit)) (now (sections .exit))) r × Memo (typesFrom (now (s .entry)) (now (types .entry)) n) (now (memo .exit)) ⌝ }
+    requires { ⌜ (n ≤ length (now types)) × (ConstantTested n (recordOf tag (now body)) × (Room (recordCost 0 (length (now body) + 3)) w (now tables) (now sections) × Memo (typesFrom (now s) (now types) n) (now memo))) ⌝ }
+    ensures { λ r. ⌜ ComesTo (TestsUnfit (λ x. constantFits (typesFrom (now (s .entry)) (now (types .entry)) n) x (constantFields tag (now (body .entry)) .value)) w (now (tables .entry))) (λ v. ConstantWritten (recordCost 0 (length (now (body .entry)) + 3)) (typesFrom (now (s .entry)) (now (types .entry)) n) (constantFields tag (now (body .entry)) .value) w (now (tables .entry)) (now (sections .entry)) v (now (tables .exit)) (now (sections .exit))) r × Memo (typesFrom (now (s .entry)) (now (types .entry)) n) (now (memo .exit)) ⌝ }
 {
     let expr = entries::constants::expression_of(tag, body);
     if !expression_fits(tables, w, s, types, n, memo, body, expr) {
@@ -132,8 +132,8 @@ fn write_global(
     body: &[u8],
     options: Options,
 ) -> RecordOutcome
-    requires { ⌜ (k .types ≤ length (now types)) × ((k .remaps ≤ length (now remaps)) × (GlobalTested (k .types) (now body) × (Room (recordCost (length (now body) + 3)) w (now tables) (now sections) × Memo (typesFrom (now s) (now types) (k .types)) (now memo)))) ⌝ }
-    ensures { λ r. ⌜ ComesTo (TestsUnfit (λ x. globalFits (typesFrom (now (s .entry)) (now (types .entry)) (k .types)) x (globalIn (now (body .entry)))) w (now (tables .entry))) (λ v. GlobalKept (recordCost (length (now (body .entry)) + 3)) (optionsFrom options) (typesFrom (now (s .entry)) (now (types .entry)) (k .types)) (map (remapFrom (now (s .entry))) (take (k .remaps) (now (remaps .entry)))) (globalIn (now (body .entry))) w (now (tables .entry)) (now (sections .entry)) v (now (tables .exit)) (now (sections .exit))) r × Memo (typesFrom (now (s .entry)) (now (types .entry)) (k .types)) (now (memo .exit)) ⌝ }
+    requires { ⌜ (k .types ≤ length (now types)) × ((k .remaps ≤ length (now remaps)) × (GlobalTested (k .types) (now body) × (Room (recordCost 2 (length (now body) + 3)) w (now tables) (now sections) × Memo (typesFrom (now s) (now types) (k .types)) (now memo)))) ⌝ }
+    ensures { λ r. ⌜ ComesTo (TestsUnfit (λ x. globalFits (typesFrom (now (s .entry)) (now (types .entry)) (k .types)) x (globalIn (now (body .entry)))) w (now (tables .entry))) (λ v. GlobalKept (recordCost 2 (length (now (body .entry)) + 3)) (optionsFrom options) (typesFrom (now (s .entry)) (now (types .entry)) (k .types)) (map (remapFrom (now (s .entry))) (take (k .remaps) (now (remaps .entry)))) (globalIn (now (body .entry))) w (now (tables .entry)) (now (sections .entry)) v (now (tables .exit)) (now (sections .exit))) r × Memo (typesFrom (now (s .entry)) (now (types .entry)) (k .types)) (now (memo .exit)) ⌝ }
 {
     let global = entries::globals::global_of(body);
     if !global_fits(tables, w, s, types, k.types, memo, global) {

@@ -7,3 +7,4 @@ pub mod Names
 pub mod Parts
 pub mod Values
 pub mod Staged
+pub mod Blocks

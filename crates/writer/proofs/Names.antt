@@ -67,11 +67,11 @@ module _ (w : Writer) (S : List ℕ) (target : ℕ) (bs : List ℕ) (few : lengt
   pub labels : RoomFor (naming (length bs + 3)) w S → Put (words (name t bs)) (Puts.part S from) z m
       → PutsOne names (length bs + 3) (name target bs) w S (more names w m) (Puts.back S from z)
   labels room put =
-      puts names (length bs + 3) (name target bs) (words (name t bs)) (spelt target bs few small ∙ ap (λ (y : ℕ). words (name y bs)) (sym e)) w S (more names w m) (Puts.back S from z)
+      puts names (length bs + 3) (name target bs) (words (name t bs)) (spelt target bs few small ∙ ap (λ (y : ℕ). words (name y bs)) (sym e)) tt w S (more names w m) (Puts.back S from z)
       (adds-put w S (words (name t bs)) (length bs + 3) (name-few t bs) names z m room put)
 
   pub labels-member : (i : ℕ) → i < 4294967296 → RoomFor (naming (length bs + 4)) w S → Put (words (memberName t i bs)) (Puts.part S from) z m
       → PutsOne names (length bs + 4) (memberName target i bs) w S (more names w m) (Puts.back S from z)
   labels-member i hi room put =
-      puts names (length bs + 4) (memberName target i bs) (words (memberName t i bs)) (spelt-member target i bs hi few small ∙ ap (λ (y : ℕ). words (memberName y i bs)) (sym e)) w S (more names w m) (Puts.back S from z)
+      puts names (length bs + 4) (memberName target i bs) (words (memberName t i bs)) (spelt-member target i bs hi few small ∙ ap (λ (y : ℕ). words (memberName y i bs)) (sym e)) tt w S (more names w m) (Puts.back S from z)
       (adds-put w S (words (memberName t i bs)) (length bs + 4) (member-few t i bs) names z m room put)

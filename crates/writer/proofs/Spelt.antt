@@ -15,7 +15,7 @@ use Rattle.writer.specs.declared.Writer.{Writer}
 use Rattle.writer.specs.Regions.{sectionAt, Section, used, more}
 use Rattle.writer.specs.Cost.{sectionWords}
 use Rattle.writer.specs.Held.{RoomFor}
-use Rattle.writer.specs.Steps.{Spelt, Puts as PutsOne}
+use Rattle.writer.specs.Steps.{Spelt, Alone, Puts as PutsOne}
 use Rattle.writer.proofs.Words.{adds-put, adds-count, puts}
 
 -- at most n words, which are an instruction's
@@ -28,8 +28,8 @@ module _ (b : Section) {n : ℕ} {i : Instruction} {ws : List ℕ} (k : Spells n
   pub put-few : m ≤ n
   put-few = omega (arith, k .few, adds-count w S ws n (k .few) b z m room put)
 
-  pub put-one : PutsOne b n i w S (more b w m) (Puts.back S (sectionAt b w + used b w) z)
-  put-one = puts b n i ws (k .spelt) w S (more b w m) (Puts.back S (sectionAt b w + used b w) z) (adds-put w S ws n (k .few) b z m room put)
+  pub put-one : Alone b i → PutsOne b n i w S (more b w m) (Puts.back S (sectionAt b w + used b w) z)
+  put-one a = puts b n i ws (k .spelt) a w S (more b w m) (Puts.back S (sectionAt b w + used b w) z) (adds-put w S ws n (k .few) b z m room put)
 
 -- ---- annotations
 

@@ -11,7 +11,7 @@ use Rattle.definition.specs.State.{State}
 use Rattle.spirv.specs.Sections.{splice}
 use Rattle.writer.specs.declared.Writer.{Writer}
 use Rattle.writer.specs.Rows.{pair, triple, part}
-use Rattle.writer.specs.Regions.{literalsAt, nullsAt, valuesAt, compositesAt, partsAt, declarations}
+use Rattle.writer.specs.Regions.{literalsAt, nullsAt, valuesAt, compositesAt, blockedAt, partsAt, declarations}
 use Rattle.writer.specs.Cost.{noCost, staging}
 use Rattle.writer.specs.Held.{tablesOf, Held, RoomIn}
 use Rattle.writer.specs.Staged.{Staged}
@@ -31,6 +31,7 @@ module _ (w : Writer) (T ws : List ℕ) (p : ℕ) (late : waiting w ≤ p) (insi
     nulls = rows-agree pair T (splice T p ws) (nullsAt w) (w .nulls) (left T p ws inside (nullsAt w) (2 * w .nulls) (omega arith)) i;
     values = rows-agree triple T (splice T p ws) (valuesAt w) (w .values) (left T p ws inside (valuesAt w) (3 * w .values) (omega arith)) i;
     composites = rows-agree triple T (splice T p ws) (compositesAt w) (w .composites) (left T p ws inside (compositesAt w) (3 * w .composites) (omega arith)) i;
+    blocked = part-left T p ws inside (blockedAt w) (w .blocked) (omega arith) i;
     parts = part-left T p ws inside (partsAt w) (w .parts) (omega arith) i;
   }
 

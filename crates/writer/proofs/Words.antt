@@ -13,6 +13,7 @@ use borrow.Author.Tests.{eq-eqb, ne-eqb}
 use Rattle.definition.specs.Choice.{pick}
 use Rattle.definition.specs.Instructions.{Instruction, words, allWords}
 use Rattle.definition.specs.State.{State, occurrences, same, listOne, listed}
+use Rattle.definition.specs.Rules.{blockedBy, blocked}
 use Rattle.spirv.specs.Put.{Put}
 use Rattle.spirv.specs.Sections.{splice}
 use Rattle.spirv.proofs.Puts as Puts
@@ -22,8 +23,8 @@ use Rattle.spirv.specs.Ids.{low}
 use Rattle.writer.specs.Rows.{part, isListed}
 use Rattle.writer.specs.Regions.{sectionAt, Section, names, annotations, declarations, used, more, addTo}
 use Rattle.writer.specs.Cost.{listingCost, declaring, sectionWords}
-use Rattle.writer.specs.Held.{Sections, tablesOf, sectionsOf, sectionsIn, wordsOf, Held, RoomFor}
-use Rattle.writer.specs.Steps.{Spelt, Adds, Puts as PutsOne, Listed, withCapabilities, CountListed, Pending, Committed}
+use Rattle.writer.specs.Held.{Sections, tablesOf, tablesIn, sectionsOf, sectionsIn, wordsOf, Held, RoomFor}
+use Rattle.writer.specs.Steps.{Spelt, Alone, Adds, Puts as PutsOne, Listed, withCapabilities, CountListed, Pending, Committed}
 use Rattle.writer.proofs.Regions.{part-left, part-right, part-more}
 
 map-append : (xs ys : List ℕ) → map low (xs ++ ys) ≡ map low xs ++ map low ys
@@ -39,29 +40,45 @@ all-snoc (j ∷ is) i = append-assoc (words j) (allWords is) (words i) ∙ ap (�
 pub words-snoc : (is : List Instruction) (i : Instruction) → wordsOf is ++ map low (words i) ≡ wordsOf (is ++ i ∷ [])
 words-snoc is i = sym (map-append (allWords is) (words i)) ∙ ap (map low) (all-snoc is i)
 
+-- .. and the ids that carry Block with it
+pub blocked-snoc : (is : List Instruction) (i : Instruction) → blocked is ++ blockedBy i ≡ blocked (is ++ i ∷ [])
+unfolding blocked
+blocked-snoc [] i = sym (append-nil (blockedBy i))
+blocked-snoc (j ∷ is) i = append-assoc (blockedBy j) (blocked is) (blockedBy i) ∙ ap (λ (l : List ℕ). blockedBy j ++ l) (blocked-snoc is i)
+
+blocked-alone : (is : List Instruction) (i : Instruction) → blockedBy i ≡ [] → blocked is ≡ blocked (is ++ i ∷ [])
+blocked-alone is i e = sym (append-nil (blocked is)) ∙ ap (λ (l : List ℕ). blocked is ++ l) (sym e) ∙ blocked-snoc is i
+
 -- ---- an instruction goes behind those in its section
 
 -- words behind those of a section
-abbrev append : Section → List ℕ → Sections → Sections
+abbrev pub append : Section → List ℕ → Sections → Sections
 append names ws t = record { capabilities = t .capabilities; names = t .names ++ ws; annotations = t .annotations; declarations = t .declarations }
 append annotations ws t = record { capabilities = t .capabilities; names = t .names; annotations = t .annotations ++ ws; declarations = t .declarations }
 append declarations ws t = record { capabilities = t .capabilities; names = t .names; annotations = t .annotations; declarations = t .declarations ++ ws }
 
 -- what the words of one more instruction make of a state's sections
-append-in : (b : Section) (i : Instruction) (ws : List ℕ) → Spelt i ws → (s : State) → append b ws (sectionsIn s) ≡ sectionsIn (addTo b i s)
+pub append-in : (b : Section) (i : Instruction) (ws : List ℕ) → Spelt i ws → (s : State) → append b ws (sectionsIn s) ≡ sectionsIn (addTo b i s)
 unfolding listed
 append-in names i ws e s = λ j. record { capabilities = s .capabilities; names = (ap (λ (l : List ℕ). wordsOf (s .names) ++ l) (sym e) ∙ words-snoc (s .names) i) j; annotations = wordsOf (s .annotations); declarations = wordsOf (s .declarations) }
 append-in annotations i ws e s = λ j. record { capabilities = s .capabilities; names = wordsOf (s .names); annotations = (ap (λ (l : List ℕ). wordsOf (s .annotations) ++ l) (sym e) ∙ words-snoc (s .annotations) i) j; declarations = wordsOf (s .declarations) }
 append-in declarations i ws e s = λ j. record { capabilities = s .capabilities; names = wordsOf (s .names); annotations = wordsOf (s .annotations); declarations = (ap (λ (l : List ℕ). wordsOf (s .declarations) ++ l) (sym e) ∙ words-snoc (s .declarations) i) j }
 
+-- what it makes of a state's tables: nothing
+tables-in : (b : Section) (i : Instruction) → Alone b i → (s : State) → tablesIn s ≡ tablesIn (addTo b i s)
+unfolding listed
+tables-in names i a s = refl
+tables-in annotations i a s = λ j. record { types = tablesIn s .types; literals = tablesIn s .literals; nulls = tablesIn s .nulls; values = tablesIn s .values; composites = tablesIn s .composites; blocked = blocked-alone (s .annotations) i a j; parts = tablesIn s .parts }
+tables-in declarations i a s = refl
+
 -- an operation on one section: the tables stay
 add-held : (b : Section) (w v : Writer) (S S′ ws : List ℕ) → v .idgen .last ≡ w .idgen .last → ((T : List ℕ) → tablesOf v T ≡ tablesOf w T)
     → sectionsOf v S′ ≡ append b ws (sectionsOf w S)
-    → (i : Instruction) → Spelt i ws → (T : List ℕ) (s : State) → Held w T S s → Held v T S′ (addTo b i s)
+    → (i : Instruction) → Spelt i ws → Alone b i → (T : List ℕ) (s : State) → Held w T S s → Held v T S′ (addTo b i s)
 unfolding listed
-add-held names w v S S′ ws l t f i e T s h = record { last = l ∙ h .last; tables = t T ∙ h .tables; small = h .small; sections = f ∙ ap (append names ws) (h .sections) ∙ append-in names i ws e s }
-add-held annotations w v S S′ ws l t f i e T s h = record { last = l ∙ h .last; tables = t T ∙ h .tables; small = h .small; sections = f ∙ ap (append annotations ws) (h .sections) ∙ append-in annotations i ws e s }
-add-held declarations w v S S′ ws l t f i e T s h = record { last = l ∙ h .last; tables = t T ∙ h .tables; small = h .small; sections = f ∙ ap (append declarations ws) (h .sections) ∙ append-in declarations i ws e s }
+add-held names w v S S′ ws l t f i e a T s h = record { last = l ∙ h .last; tables = t T ∙ h .tables ∙ tables-in names i a s; small = h .small; sections = f ∙ ap (append names ws) (h .sections) ∙ append-in names i ws e s }
+add-held annotations w v S S′ ws l t f i e a T s h = record { last = l ∙ h .last; tables = t T ∙ h .tables ∙ tables-in annotations i a s; small = h .small; sections = f ∙ ap (append annotations ws) (h .sections) ∙ append-in annotations i ws e s }
+add-held declarations w v S S′ ws l t f i e a T s h = record { last = l ∙ h .last; tables = t T ∙ h .tables ∙ tables-in declarations i a s; small = h .small; sections = f ∙ ap (append declarations ws) (h .sections) ∙ append-in declarations i ws e s }
 
 module _ (w : Writer) (S ws : List ℕ) (n : ℕ) (few : length ws ≤ n) where
   abbrev from : Section → ℕ
@@ -102,6 +119,9 @@ module _ (w : Writer) (S ws : List ℕ) (n : ℕ) (few : length ws ≤ n) where
     pub adds-count : m ≡ length ws
     adds-count = Puts.lent-count S (from b) ws z m put (in-list b room)
 
+    pub put-appended : sectionsOf (more b w m) (Puts.back S (sectionAt b w + used b w) z) ≡ append b ws (sectionsOf w S)
+    put-appended = (λ j. sectionsOf (more b w (adds-count j)) (Puts.lent S (from b) ws z m put (in-list b room) j)) ∙ appended b room
+
     pub adds-put : Adds b n ws w S (more b w m) (Puts.back S (sectionAt b w + used b w) z)
     adds-put =
         let l : Puts.back S (from b) z ≡ splice S (from b) ws = Puts.lent S (from b) ws z m put (in-list b room) in
@@ -109,8 +129,8 @@ module _ (w : Writer) (S ws : List ℕ) (n : ℕ) (few : length ws ≤ n) where
         (subst (λ (y : List ℕ). Adds b n ws w S (more b w (length ws)) y) (sym l) (adds b room))
 
 -- the same of one instruction
-pub puts : (b : Section) (n : ℕ) (i : Instruction) (ws : List ℕ) → Spelt i ws → (w : Writer) (S : List ℕ) (v : Writer) (S′ : List ℕ) → Adds b n ws w S v S′ → PutsOne b n i w S v S′
-puts b n i ws e w S v S′ a = record { grown = a .grown; held = a .held i e }
+pub puts : (b : Section) (n : ℕ) (i : Instruction) (ws : List ℕ) → Spelt i ws → Alone b i → (w : Writer) (S : List ℕ) (v : Writer) (S′ : List ℕ) → Adds b n ws w S v S′ → PutsOne b n i w S v S′
+puts b n i ws e q w S v S′ a = record { grown = a .grown; held = a .held i e q }
 
 -- ---- capabilities
 

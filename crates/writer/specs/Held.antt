@@ -8,12 +8,13 @@ use Rattle.definition.specs.Literals.{Literal}
 use Rattle.definition.specs.Instructions.{Instruction, allWords}
 use Rattle.definition.specs.Shapes.{Kind, Key}
 use Rattle.definition.specs.State.{State, Composite, composite, Valued, function, void}
+use Rattle.definition.specs.Rules.{blocked}
 use Rattle.literals.specs.Forms.{literalForm, bitsOf}
 use Rattle.lookup.specs.Packed.{packedKey, code, Small}
 use Rattle.writer.specs.declared.Writer.{Writer}
 use Rattle.spirv.specs.Ids.{low}
 use Rattle.writer.specs.Rows.{TableRow, tableRow, pair, triple, tableRows, part}
-use Rattle.writer.specs.Regions.{literalsAt, nullsAt, valuesAt, compositesAt, partsAt, sectionAt, names, annotations, declarations}
+use Rattle.writer.specs.Regions.{literalsAt, nullsAt, valuesAt, compositesAt, blockedAt, partsAt, sectionAt, names, annotations, declarations}
 use Rattle.writer.specs.Cost.{Cost}
 
 -- ---- the regions' contents
@@ -24,6 +25,7 @@ pub record Tables : Type 0 where
   pub nulls : List TableRow
   pub values : List TableRow
   pub composites : List TableRow
+  pub blocked : List ℕ
   pub parts : List ℕ
 
 pub record Sections : Type 0 where
@@ -40,6 +42,7 @@ tablesOf w T = record {
   nulls = tableRows pair T (nullsAt w) (w .nulls);
   values = tableRows triple T (valuesAt w) (w .values);
   composites = tableRows triple T (compositesAt w) (w .composites);
+  blocked = part T (blockedAt w) (w .blocked);
   parts = part T (partsAt w) (w .parts);
 }
 
@@ -102,6 +105,7 @@ tablesIn s = record {
   nulls = map nullRow (s .constants .nulls);
   values = map valueRow (s .constants .values);
   composites = map compositeRow (s .constants .composites);
+  blocked = blocked (s .annotations);
   parts = allParts (s .constants .composites);
 }
 
@@ -146,12 +150,13 @@ pub record Held (w : Writer) (T S : List ℕ) (s : State) : Type 0 where
 -- ---- room, and growth
 
 pub record RoomIn (c : Cost) (w : Writer) (T : List ℕ) : Type 0 where
-  pub in-list : 19 * w .records + w .bytes ≤ length T
+  pub in-list : 20 * w .records + w .bytes ≤ length T
   pub in-types : w .types + c .types ≤ 4 * w .records
   pub in-literals : w .literals + c .literals ≤ w .records
   pub in-nulls : w .nulls + c .nulls ≤ w .records
   pub in-values : w .values + c .values ≤ w .records
   pub in-composites : w .composites + c .composites ≤ w .records
+  pub in-blocked : w .blocked + c .blocked ≤ w .records
   pub in-parts : w .parts + c .parts ≤ w .bytes
   pub in-ids : w .idgen .last + c .ids < 9223372036854775808
 
@@ -176,6 +181,7 @@ pub record Grown (c : Cost) (w v : Writer) : Type 0 where
   pub nulls : v .nulls ≤ w .nulls + c .nulls
   pub values : v .values ≤ w .values + c .values
   pub composites : v .composites ≤ w .composites + c .composites
+  pub blocked : v .blocked ≤ w .blocked + c .blocked
   pub parts : v .parts ≤ w .parts + c .parts
   pub parts-kept : w .parts ≤ v .parts
   pub capabilities : v .capabilities ≤ w .capabilities + c .capabilities

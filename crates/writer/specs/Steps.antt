@@ -1,18 +1,19 @@
 -- What an operation promises: whatever state is held before it, the state after it is held then.
 use Prim.Native.Nat.{ℕ, suc, _+_, _*_, _≤_}
 use mathlib.Core.Path.{_≡_}
-use mathlib.Core.List.{List, _++_, map}
+use mathlib.Core.Bool.{Bool}
+use mathlib.Core.List.{List, [], _++_, map}
 use mathlib.Core.Option.{Option}
 use native.Mathlib.Decide.{ℕ-discrete}
 use lib.Dec.{ltb}
 use lib.ListN.{length, getD}
-use Rattle.definition.specs.Choice.{pick}
+use Rattle.definition.specs.Choice.{pick, among}
 use Rattle.definition.specs.Literals.{Literal, sameLiteral}
 use Rattle.definition.specs.Instructions.{Instruction, words}
 use Rattle.definition.specs.Shapes.{Kind, Key, sameKey}
 use Rattle.definition.specs.State.{State, Composite, sameComposite, Valued, Got, takeId, enter, declareAlone, withConstants, listed, lookup}
 use Rattle.definition.specs.Finding.{enterLiteral, enterComposite, enterNull}
-use Rattle.definition.specs.Rules.{valueAt, enterValue}
+use Rattle.definition.specs.Rules.{valueAt, enterValue, blockedBy, blocked}
 use Rattle.literals.specs.Forms.{literalForm, bitsOf}
 use Rattle.lookup.specs.Packed.{packedKey, Small}
 use Rattle.writer.specs.declared.Writer.{Writer}
@@ -21,13 +22,13 @@ use Rattle.writer.specs.declared.WrittenConstant.{WrittenConstant}
 use Rattle.writer.specs.declared.Sought.{Sought}
 use Rattle.spirv.specs.Ids.{low}
 use Rattle.writer.specs.Rows.{part, soughtOf}
-use Rattle.writer.specs.Regions.{valuesAt, partsAt, sectionAt, Section, declarations, addTo}
+use Rattle.writer.specs.Regions.{valuesAt, partsAt, sectionAt, Section, names, annotations, declarations, addTo}
 use Rattle.writer.specs.Cost.{Cost, anId, aType, aLiteral, aNull, aValue, aComposite, listingCost, declaring, sectionWords}
 use Rattle.writer.specs.Held.{kindCode, SmallKind, Held, RoomFor, Grown, SmallComposite, compositeKey, partsOfC}
 
 -- nothing is in use
 abbrev pub fresh : ℕ → ℕ → ℕ → Writer
-fresh records bytes start = record { records = records; bytes = bytes; idgen = record { last = start }; types = 0; literals = 0; nulls = 0; values = 0; composites = 0; parts = 0; capabilities = 0; names = 0; annotations = 0; declarations = 0 }
+fresh records bytes start = record { records = records; bytes = bytes; idgen = record { last = start }; types = 0; literals = 0; nulls = 0; values = 0; composites = 0; blocked = 0; parts = 0; capabilities = 0; names = 0; annotations = 0; declarations = 0 }
 
 -- the parts in use, and those that stand behind them, are as they were
 pub record Tail (w : Writer) (T : List ℕ) (v : Writer) (T′ : List ℕ) : Type 0 where
@@ -140,10 +141,16 @@ pub record ValueAt (c : ℕ) (w : Writer) (T : List ℕ) (r : WrittenConstant) :
 abbrev pub Spelt : Instruction → List ℕ → Type 0
 Spelt i ws = map low (words i) ≡ ws
 
+-- an instruction that needs no other change than that of its section: one that puts Block on an id is noted in a table too
+abbrev pub Alone : Section → Instruction → Type 0
+Alone names i = Unit
+Alone annotations i = blockedBy i ≡ []
+Alone declarations i = Unit
+
 -- at most n words are added to a section: they are an instruction
 pub record Adds (b : Section) (n : ℕ) (ws : List ℕ) (w : Writer) (S : List ℕ) (v : Writer) (S′ : List ℕ) : Type 0 where
   pub grown : Grown (sectionWords b n) w v
-  pub held : (i : Instruction) → Spelt i ws → (T : List ℕ) (s : State) → Held w T S s → Held v T S′ (addTo b i s)
+  pub held : (i : Instruction) → Spelt i ws → Alone b i → (T : List ℕ) (s : State) → Held w T S s → Held v T S′ (addTo b i s)
 
 -- the same of one instruction
 pub record Puts (b : Section) (n : ℕ) (i : Instruction) (w : Writer) (S : List ℕ) (v : Writer) (S′ : List ℕ) : Type 0 where
@@ -165,6 +172,12 @@ pub record Committed (n : ℕ) (w v : Writer) : Type 0 where
   pub grown : Grown (declaring n) w v
   pub held : (T S : List ℕ) (s : State) (i : Instruction) → Spelt i (part S (sectionAt declarations w + w .declarations) n) → Held w T S s → Held v T S (declareAlone i s)
 
+-- ---- Block
+
+-- whether an id carries it
+abbrev pub FindsBlock : ℕ → Writer → List ℕ → Bool → Type 0
+FindsBlock id w T r = (S : List ℕ) (s : State) → Held w T S s → r ≡ among id (blocked (s .annotations))
+
 -- ---- capabilities, each at its first use
 
 abbrev pub listing : List ℕ → State → State
@@ -176,7 +189,7 @@ pub record Listed (cs : List ℕ) (w : Writer) (S : List ℕ) (v : Writer) (S′
 
 -- m capabilities in use
 abbrev pub withCapabilities : Writer → ℕ → Writer
-withCapabilities w m = record { records = w .records; bytes = w .bytes; idgen = w .idgen; types = w .types; literals = w .literals; nulls = w .nulls; values = w .values; composites = w .composites; parts = w .parts; capabilities = m; names = w .names; annotations = w .annotations; declarations = w .declarations }
+withCapabilities w m = record { records = w .records; bytes = w .bytes; idgen = w .idgen; types = w .types; literals = w .literals; nulls = w .nulls; values = w .values; composites = w .composites; blocked = w .blocked; parts = w .parts; capabilities = m; names = w .names; annotations = w .annotations; declarations = w .declarations }
 
 -- the same by their count alone: there were n, and there are m then
 pub record CountListed (cs : List ℕ) (n : ℕ) (S : List ℕ) (m : ℕ) (S′ : List ℕ) : Type 0 where

@@ -6,23 +6,26 @@ pub mod sections;
 use crate::sections::constant_composite;
 use crate::sections::type_function;
 use spirv::IdGenerator;
+use spirv::instructions::DECORATION_BLOCK;
 use spirv::low_word;
 ghost use mathlib.Core.Path.{_≡_};
 ghost use mathlib.Core.List.{List, [], _∷_};
 ghost use Prim.Native.Nat.{ℕ, _+_, _*_, _≤_, _<_};
 ghost use lib.ListN.{length};
-ghost use Rattle.definition.specs.State.{empty};
+ghost use Rattle.definition.specs.State.{empty, annotate};
+ghost use Rattle.definition.specs.Rules.{block, blockOnce};
 ghost use Rattle.definition.specs.Instructions.{constantComposite, typeFunction, name, memberName};
 ghost use Rattle.spirv.specs.Sections.{splice};
 ghost use Rattle.lookup.specs.Local.{asList};
 ghost use Rattle.writer.specs.Rows.{pair, triple, tableRows, seekIn, sameList, seekParts, soughtOf, part, isListed};
 ghost use Rattle.writer.specs.Regions.{partsAt, names, annotations, declarations};
-ghost use Rattle.writer.specs.Cost.{noCost, aType, aLiteral, aNull, aValue, aComposite, staging, naming, declaring};
-ghost use Rattle.writer.specs.Held.{Held, RoomIn, RoomFor};
-ghost use Rattle.writer.specs.Steps.{fresh, Took, FindsType, FindsLiteral, FindsNull, FindsComposite, EnteredType, EnteredLiteral, EnteredNull, EnteredComposite, EnteredValue, ValueAt, Puts, CountListed, Pending, Committed};
+ghost use Rattle.writer.specs.Cost.{noCost, aType, aLiteral, aNull, aValue, aComposite, staging, naming, aBlock, declaring};
+ghost use Rattle.writer.specs.Held.{Held, RoomIn, RoomFor, Room};
+ghost use Rattle.writer.specs.Steps.{fresh, Kept, FindsBlock, Took, FindsType, FindsLiteral, FindsNull, FindsComposite, EnteredType, EnteredLiteral, EnteredNull, EnteredComposite, EnteredValue, ValueAt, Puts, CountListed, Pending, Committed};
 
 // Where a table starts, in multiples of `records`: a record adds four types at most and one row to each other table. A row is
-// a key and an id, two numbers, of types and nulls, and three of the others. Behind the tables stand the ids of composites' parts.
+// a key and an id, two numbers, of types and nulls, and three of the others. Behind them stand the ids that carry Block, as many
+// as there are records at most, and then the ids of composites' parts.
 const LITERALS: usize = 8;
 
 const NULLS: usize = 11;
@@ -31,7 +34,9 @@ const VALUES: usize = 13;
 
 const COMPOSITES: usize = 16;
 
-const PARTS: usize = 19;
+const BLOCKED: usize = 19;
+
+const PARTS: usize = 20;
 
 // Where a section starts, in multiples of `bytes`: a byte of the sheet adds a capability at most, a word of names, two of
 // annotations and three of declarations. The capabilities come first.
@@ -51,6 +56,7 @@ pub struct Writer {
     pub nulls: usize,
     pub values: usize,
     pub composites: usize,
+    pub blocked: usize,
     pub parts: usize,
     pub capabilities: usize,
     pub names: usize,
@@ -90,6 +96,7 @@ pub fn new(records: usize, bytes: usize, start: u64) -> Writer
         nulls: 0,
         values: 0,
         composites: 0,
+        blocked: 0,
         parts: 0,
         capabilities: 0,
         names: 0,
@@ -488,6 +495,52 @@ pub fn declare_function(
 {
     type_function(sections, w, id, staged_parts(tables, w, n))
 }
+
+// ---- Block, whose ids are kept: it goes on an id once
+
+// Whether an id carries Block.
+fn is_blocked(tables: &[u64], w: Writer, id: u64) -> bool
+    requires { ⌜ RoomIn noCost w (now tables) ⌝ }
+    ensures { λ r. ⌜ FindsBlock id w (now (tables .entry)) r ⌝ }
+{
+    let mut p = BLOCKED * w.records;
+    let end = p + w.blocked;
+    while p < end {
+        if tables[p] == id {
+            return true;
+        }
+        p += 1;
+    }
+    false
+}
+
+// Puts Block on an id that has none yet, which is for the caller to know.
+pub fn put_block(tables: &mut [u64], sections: &mut [u32], mut w: Writer, id: u64) -> Writer
+    requires { ⌜ Room aBlock w (now tables) (now sections) ⌝ }
+    ensures { λ r. ⌜ Kept aBlock (annotate (block id)) w (now (tables .entry)) (now (sections .entry)) r (now (tables .exit)) (now (sections .exit)) ⌝ }
+{
+    let start = ANNOTATIONS * w.bytes + w.annotations;
+    let t = low_word(id);
+    let n = spirv::instructions::decorate(&mut sections[start..], t, DECORATION_BLOCK, &[]);
+    let p = BLOCKED * w.records + w.blocked;
+    tables[p] = id;
+    w.annotations += n;
+    w.blocked += 1;
+    w
+}
+
+// The same of any id: where Block is, it stays, and is not written again.
+pub fn block_once(tables: &mut [u64], sections: &mut [u32], w: Writer, id: u64) -> Writer
+    requires { ⌜ Room aBlock w (now tables) (now sections) ⌝ }
+    ensures { λ r. ⌜ Kept aBlock (blockOnce id) w (now (tables .entry)) (now (sections .entry)) r (now (tables .exit)) (now (sections .exit)) ⌝ }
+{
+    if is_blocked(tables, w, id) {
+        return w;
+    }
+    put_block(tables, sections, w, id)
+}
+
+// ---- an instruction word by word
 
 // A word of an instruction that is not whole yet, behind the declarations in use.
 pub fn put_pending(sections: &mut [u32], w: Writer, k: usize, x: u32)

@@ -6,9 +6,13 @@ use crate::Writer;
 use spirv::instructions;
 use spirv::instructions::Initializer;
 use spirv::low_word;
+ghost use mathlib.Core.Path.{_≡_};
+ghost use mathlib.Core.Bool.{false};
 ghost use mathlib.Core.List.{[], _∷_};
 ghost use Prim.Native.Nat.{_+_, _≤_, _<_};
+ghost use lib.Dec.{eqb};
 ghost use lib.ListN.{length};
+ghost use Rattle.definition.specs.Numbers.{DecorationBlock};
 ghost use Rattle.definition.specs.Instructions.{decorate, memberDecorate, typeVoid, typeArray, typeRuntimeArray, typeStruct, typePointer, typeFunction, constantTrue, constantFalse, constantNull, constantOp, constantComposite, variable};
 ghost use Rattle.spirv.specs.Ids.{low, initializerOf};
 ghost use Rattle.spirv.specs.Heads.{structHead};
@@ -19,6 +23,7 @@ ghost use Rattle.writer.specs.Steps.{Puts, Pending};
 
 // ---- annotations
 
+// Any decoration but Block, which `put_block` writes: the ids that carry it are kept.
 pub fn decorate(
     sections: &mut [u32],
     mut w: Writer,
@@ -26,7 +31,7 @@ pub fn decorate(
     decoration: u32,
     operands: &[u32],
 ) -> Writer
-    requires { ⌜ (length (now operands) ≤ 8) × RoomFor (annotating (length (now operands) + 3)) w (now sections) ⌝ }
+    requires { ⌜ (length (now operands) ≤ 8) × RoomFor (annotating (length (now operands) + 3)) w (now sections) × (eqb decoration DecorationBlock ≡ false) ⌝ }
     ensures { λ r. ⌜ Puts annotations (length (now (operands .entry)) + 3) (decorate target decoration (now (operands .entry))) w (now (sections .entry)) r (now (sections .exit)) ⌝ }
 {
     let start = ANNOTATIONS * w.bytes + w.annotations;

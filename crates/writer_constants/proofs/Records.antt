@@ -27,7 +27,7 @@ use Rattle.fields.proofs.Numbers.{u16s-length}
 
 module _ (b : List ℕ) where
   abbrev Priced : Fields Expression → Type 0
-  Priced f = f .end ≡ length b → expressionFits (f .value) ≡ true → length b < 65536 → AtMost (expressionCost (f .value)) (recordCost (length b + 3)) × FewParts (f .value)
+  Priced f = f .end ≡ length b → expressionFits (f .value) ≡ true → length b < 65536 → AtMost (expressionCost (f .value)) (recordCost 0 (length b + 3)) × FewParts (f .value)
 
   -- a form byte, and one byte more at least
   two-bytes : 2 ≤ literalFields b .end
@@ -49,17 +49,17 @@ module _ (b : List ℕ) where
 -- ---- of a tested record
 
 module _ (n : ℕ) (r : Record) (t : ConstantTested n r) where
-  cheap : AtMost (expressionCost (fieldsOf r .value)) (recordCost (length (r .body) + 3)) × FewParts (fieldsOf r .value)
+  cheap : AtMost (expressionCost (fieldsOf r .value)) (recordCost 0 (length (r .body) + 3)) × FewParts (fieldsOf r .value)
   cheap = priced (r .body) (r .tag) (t .whole) (t .values) (t .small)
 
   pub few : FewParts (fieldsOf r .value)
   few = cheap .1
 
-  pub roomy : (w : Writer) (T S : List ℕ) → Room (recordCost (length (r .body) + 3)) w T S → Room (expressionCost (fieldsOf r .value)) w T S
+  pub roomy : (w : Writer) (T S : List ℕ) → Room (recordCost 0 (length (r .body) + 3)) w T S → Room (expressionCost (fieldsOf r .value)) w T S
   roomy w T S h = record { rows = omega (arith, cheap .0, h .rows); words = omega (arith, cheap .0, h .words) }
 
   pub written : (ts : List TypeEntry) (w : Writer) (T S : List ℕ) (v : Writer) (T′ S′ : List ℕ) → ConstantWritten (expressionCost (fieldsOf r .value)) ts (fieldsOf r .value) w T S v T′ S′
-      → ConstantWritten (recordCost (length (r .body) + 3)) ts (fieldsOf r .value) w T S v T′ S′
+      → ConstantWritten (recordCost 0 (length (r .body) + 3)) ts (fieldsOf r .value) w T S v T′ S′
   written ts w T S v T′ S′ h = record { grown = omega (arith, cheap .0, h .grown); held = h .held }
 
   -- what was taken for the constant is the constant

@@ -17,7 +17,7 @@ use Rattle.definition.specs.Sheet.{TypeEntry}
 use Rattle.definition.specs.Shapes.{entry}
 use Rattle.definition.specs.State.{State, annotate}
 use Rattle.definition.specs.Finding.{find}
-use Rattle.definition.specs.Rules.{innerAt, annotateIf, labelIf, imageAccess, accessOf, decorateAccess, blockBase, block}
+use Rattle.definition.specs.Rules.{innerAt, annotateIf, labelIf, imageAccess, accessOf, decorateAccess, blockBase, blockOnce}
 use Rattle.kinds.specs.Numbers.{spaceNumber, spaceAccess}
 use Rattle.kinds.specs.declared.AddressSpace.{AddressSpace}
 use Rattle.kinds.specs.declared.AddressSpace.the-variants.{Storage}
@@ -29,11 +29,11 @@ use Rattle.entries.specs.declared.globals.GlobalVariable.{GlobalVariable}
 use Rattle.writer.specs.declared.Writer.{Writer}
 use Rattle.writer.specs.declared.Taken.{Taken}
 use Rattle.writer.specs.Regions.{names, annotations}
-use Rattle.writer.specs.Cost.{Cost, noCost, annotating, naming, _⊕_}
+use Rattle.writer.specs.Cost.{Cost, noCost, annotating, naming, aBlock, _⊕_}
 use Rattle.writer.specs.Held.{Held}
 use Rattle.writer.specs.Steps.{Kept, GotBy, Puts, Added}
 use Rattle.writer_globals.specs.Globals.{bindingDecorated}
-use Rattle.writer_globals.proofs.Rooms.{grown-still, _▹_, tail-same, tail-still, tail-then}
+use Rattle.writer_globals.proofs.Rooms.{grown-still, _▹_, tail-same, tail-then}
 
 -- ---- steps
 
@@ -128,15 +128,15 @@ module _ (storage : Bool) (o : Option ℕ) where
     pub no-base : o ≡ none → (s : State) → blockBase storage o s ≡ s
     no-base z s = λ j. blockBase (e j) (z j) s
 
-    pub on-base : {b : ℕ} → o ≡ some b → {w v : Writer} {T S T₁ S₁ S₂ : List ℕ} {f : Taken} → GotBy noCost (find (entry b)) w T S f T₁ S₁
-        → Puts annotations 3 (block (f .id)) (f .writer) S₁ v S₂ → Kept (annotating 3) (blockBase storage o) w T S v T₁ S₂
-    on-base {b = b} z {v = v} {T₁ = T₁} {S₂ = S₂} p q =
+    pub on-base : {b : ℕ} → o ≡ some b → {w v : Writer} {T S T₁ S₁ T₂ S₂ : List ℕ} {f : Taken} → GotBy noCost (find (entry b)) w T S f T₁ S₁
+        → Kept aBlock (blockOnce (f .id)) (f .writer) T₁ S₁ v T₂ S₂ → Kept aBlock (blockBase storage o) w T S v T₂ S₂
+    on-base {b = b} z {v = v} {T₂ = T₂} {S₂ = S₂} p q =
         record {
           grown = omega (arith, p .grown, q .grown);
-          tail = tail-then (p .grown) (p .tail) (tail-still refl T₁ (q .grown));
+          tail = tail-then (p .grown) (p .tail) (q .tail);
           held = λ s h.
               let g = p .gives s h in
               let t = find (entry b) s in
-              subst (Held v T₁ S₂) ((λ j. annotate (block (g .named j)) (t .state)) ∙ sym (λ j. blockBase (e j) (z j) s))
-              (q .held T₁ (t .state) (g .held));
+              subst (Held v T₂ S₂) ((λ j. blockOnce (g .named j) (t .state)) ∙ sym (λ j. blockBase (e j) (z j) s))
+              (q .held (t .state) (g .held));
         }

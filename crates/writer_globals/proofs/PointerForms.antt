@@ -27,10 +27,10 @@ use Rattle.type_facts.specs.declared.Number.{Number}
 use Rattle.type_facts.specs.Facets.{numberOf}
 use Rattle.writer.specs.declared.Writer.{Writer}
 use Rattle.writer.specs.declared.Taken.{Taken}
-use Rattle.writer.specs.Regions.{annotations, declarations}
-use Rattle.writer.specs.Cost.{Cost, noCost, anId, annotating, declaring}
+use Rattle.writer.specs.Regions.{declarations}
+use Rattle.writer.specs.Cost.{Cost, noCost, anId, aBlock, declaring}
 use Rattle.writer.specs.Held.{Held, Grown, Room, RoomIn, RoomFor}
-use Rattle.writer.specs.Steps.{GotBy, Took, Puts, Added}
+use Rattle.writer.specs.Steps.{Kept, GotBy, Took, Puts, Added}
 use Rattle.finding.proofs.Prices.{AtMost}
 use Rattle.writer_members.specs.Members.{memberCost, memberDecorated}
 use Rattle.finding.proofs.Ways.{taken}
@@ -42,10 +42,10 @@ use Rattle.writer_globals.proofs.Rooms.{_▹_, grown-within, words-left
 
 -- ---- the wrapper: what is left of its room at each call, then the whole
 
-module _ {w : Writer} {T S : List ℕ} (room : Room wrapperCost w T S) {n : Writer} (g₀ : Grown anId w n) {a : Writer} (g₁ : Grown (annotating 3) n a)
+module _ {w : Writer} {T S : List ℕ} (room : Room wrapperCost w T S) {n : Writer} (g₀ : Grown anId w n) {a : Writer} (g₁ : Grown aBlock n a)
     {c : Writer} (g₂ : Grown (memberCost false []) a c) where
-  pub room-find : RoomIn noCost c T
-  room-find = omega (arith, g₀ ▹ g₁ ▹ g₂, room .rows)
+  pub room-find : {T′ : List ℕ} → length T′ ≡ length T → RoomIn noCost c T′
+  room-find l = omega (arith, g₀ ▹ g₁ ▹ g₂, room .rows)
 
   pub room-struct : {S′ : List ℕ} → length S′ ≡ length S → RoomFor (declaring 3) c S′
   room-struct l = words-left (room .words) (g₀ ▹ g₁ ▹ g₂) l (omega arith)
@@ -58,25 +58,25 @@ module _ {w : Writer} {T S : List ℕ} (room : Room wrapperCost w T S) {n : Writ
     room-pointer g₄ l = words-left (room .words) (g₀ ▹ g₁ ▹ g₂ ▹ g₃ ▹ g₄) l (omega arith)
 
 pub wrapper : (t class : ℕ) (o : Option ℕ) {w : Writer} {T S : List ℕ} {n : Taken} → Took w n
-    → {a : Writer} {S₁ : List ℕ} → Puts annotations 3 (block (n .id)) (n .writer) S a S₁
+    → {a : Writer} {T₁ S₁ : List ℕ} → Kept aBlock (annotate (block (n .id))) (n .writer) T S a T₁ S₁
     → {c : Writer} {S₃ : List ℕ} → Added (memberCost false []) (memberDecorated (n .id) 0 0 false [] o) a S₁ c S₃
-    → {f : Taken} {T₄ S₄ : List ℕ} → GotBy noCost (find (entry t)) c T S₃ f T₄ S₄
+    → {f : Taken} {T₄ S₄ : List ℕ} → GotBy noCost (find (entry t)) c T₁ S₃ f T₄ S₄
     → {d : Writer} {S₅ : List ℕ} → Puts declarations 3 (typeStruct (n .id) (f .id ∷ [])) (f .writer) S₄ d S₅
     → {m : Taken} → Took d m
     → {u : Writer} {S₆ : List ℕ} → Puts declarations 4 (typePointer (m .id) class (n .id)) (m .writer) S₅ u S₆ → GotBy wrapperCost (wrapIn o t class) w T S (taken (m .id) u) T₄ S₆
-wrapper t class o {w = w} {T = T} {S = S} {n = n} p q₁ q₃ {f = f} {T₄ = T₄} q₄ {S₅ = S₅} q₅ {m = m} p₂ {u = u} {S₆ = S₆} q₆ =
+wrapper t class o {w = w} {T = T} {S = S} {n = n} p {T₁ = T₁} q₁ q₃ {f = f} {T₄ = T₄} q₄ {S₅ = S₅} q₅ {m = m} p₂ {u = u} {S₆ = S₆} q₆ =
     let before = p .grown ▹ q₁ .grown ▹ q₃ .grown in
     let after = q₅ .grown ▹ p₂ .grown ▹ q₆ .grown in
     record {
       grown = omega (arith, before, q₄ .grown, after);
-      tail = tail-then before (tail-still refl T before) (tail-then (q₄ .grown) (q₄ .tail) (tail-still refl T₄ after));
+      tail = tail-then before (tail-then (p .grown) (tail-still refl T (p .grown)) (tail-then (q₁ .grown) (q₁ .tail) (tail-still refl T₁ (q₃ .grown)))) (tail-then (q₄ .grown) (q₄ .tail) (tail-still refl T₄ after));
       gives = λ s h.
           let i = n .id in
           let ei : i ≡ suc (s .last) = p .named ∙ ap suc (h .last) in
           let A : ℕ → State = λ i. strideMember o i 0 (annotate (memberDecorate i 0 DecorationOffset (0 ∷ [])) (annotate (block i) (takeId s))) in
           let F : ℕ → Got = λ i. find (entry t) (A i) in
-          let h₂ = q₁ .held T (takeId s) (p .held T S s h) in
-          let h₄ = q₃ .held T (annotate (block i) (takeId s)) h₂ in
+          let h₂ = q₁ .held (takeId s) (p .held T S s h) in
+          let h₄ = q₃ .held T₁ (annotate (block i) (takeId s)) h₂ in
           let g = q₄ .gives (A i) h₄ in
           let v = declareAlone (typeStruct i (f .id ∷ [])) (F i .state) in
           let h₅ = q₅ .held T₄ (F i .state) (g .held) in

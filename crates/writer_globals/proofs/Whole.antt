@@ -24,7 +24,7 @@ use Rattle.writer.specs.declared.Writer.{Writer}
 use Rattle.writer.specs.declared.Taken.{Taken}
 use Rattle.spirv.specs.Ids.{initializerOf}
 use Rattle.writer.specs.Regions.{declarations}
-use Rattle.writer.specs.Cost.{anId, naming, annotating, declaring, recordCost}
+use Rattle.writer.specs.Cost.{anId, naming, annotating, aBlock, declaring, recordCost}
 use Rattle.writer.specs.Held.{Held, Room, RoomFor, Grown}
 use Rattle.writer.specs.Steps.{Kept, GotBy, Took, Puts, Added}
 use Rattle.finding.specs.Costs.{nullCost}
@@ -49,10 +49,10 @@ module _ (k : ℕ) {w : Writer} {T S : List ℕ} (room : Room (globalCost k) w T
         room-pointer l = room-left room (g₀ ▹ g₁ ▹ g₂ ▹ g₃) refl l (omega arith)
 
         module _ {p : Writer} (g₄ : Grown pointerCost v₃ p) where
-          pub room-base : {T′ S′ : List ℕ} → length T′ ≡ length T → length S′ ≡ length S → Room (annotating 3) p T′ S′
+          pub room-base : {T′ S′ : List ℕ} → length T′ ≡ length T → length S′ ≡ length S → Room aBlock p T′ S′
           room-base m l = room-left room (g₀ ▹ g₁ ▹ g₂ ▹ g₃ ▹ g₄) m l (omega arith)
 
-          module _ {v₅ : Writer} (g₅ : Grown (annotating 3) p v₅) where
+          module _ {v₅ : Writer} (g₅ : Grown aBlock p v₅) where
             pub room-init : {T′ S′ : List ℕ} → length T′ ≡ length T → length S′ ≡ length S → Room nullCost v₅ T′ S′
             room-init m l = room-left room (g₀ ▹ g₁ ▹ g₂ ▹ g₃ ▹ g₄ ▹ g₅) m l (omega arith)
 
@@ -101,7 +101,7 @@ pub declared : (o : Options) (ts : List TypeEntry) (rs : List Remap) (b : List �
     → (y : PointerForm) → ((x : State) → pointerBy y g x ≡ pointerOf (pointerFormIn ts rs (globalOf b g)) ts (globalOf b g) x)
     → {p : Taken} {T₄ S₄ : List ℕ} → GotBy pointerCost (pointerBy y g) v₃ T S₃ p T₄ S₄
     → {base : Option ℕ} → base ≡ bindingBase (innerAt ts (g .ty))
-    → {v₅ : Writer} {T₅ S₅ : List ℕ} → Kept (annotating 3) (blockBase (eqb (spaceNumber (g .space)) 4) base) (p .writer) T₄ S₄ v₅ T₅ S₅
+    → {v₅ : Writer} {T₅ S₅ : List ℕ} → Kept aBlock (blockBase (eqb (spaceNumber (g .space)) 4) base) (p .writer) T₄ S₄ v₅ T₅ S₅
     → {null : Bool} → null ≡ (eqb (spaceNumber (g .space)) 1 || (eqb (spaceNumber (g .space)) 2 && o .zeroing))
     → {z : TakenInit} {T₆ S₆ : List ℕ} → Initialised (initFor (initConstant (g .init)) null (g .ty)) v₅ T₅ S₅ z T₆ S₆
     → {class : ℕ} → class ≡ storageClass (spaceNumber (g .space))
@@ -141,15 +141,15 @@ module _ {n : ℕ} (b : List ℕ) (tested : GlobalTested n b) where
   as-read g t = t (tested .values)
 
   -- three bytes stand before it, and fifteen behind its name
-  price : AtMost (globalCost (nameEnd b 0)) (recordCost (length b + 3))
+  price : AtMost (globalCost (nameEnd b 0)) (recordCost 2 (length b + 3))
   unfolding globalFields
   price = let w : nameEnd b 0 + 15 ≡ length b = tested .whole in omega (arith, w)
 
-  pub record-room : {w : Writer} {T S : List ℕ} → Room (recordCost (length b + 3)) w T S → Room (globalCost (nameEnd b 0)) w T S
+  pub record-room : {w : Writer} {T S : List ℕ} → Room (recordCost 2 (length b + 3)) w T S → Room (globalCost (nameEnd b 0)) w T S
   record-room room = let m = price in record { rows = omega (arith, m, room .rows); words = omega (arith, m, room .words) }
 
   pub record-kept : {o : Options} {ts : List TypeEntry} {rs : List Remap} {g : Global} → g ≡ globalIn b → {w v : Writer} {T S T′ S′ : List ℕ}
-      → GlobalKept (globalCost (nameEnd b 0)) o ts rs g w T S v T′ S′ → GlobalKept (recordCost (length b + 3)) o ts rs (globalIn b) w T S v T′ S′
+      → GlobalKept (globalCost (nameEnd b 0)) o ts rs g w T S v T′ S′ → GlobalKept (recordCost 2 (length b + 3)) o ts rs (globalIn b) w T S v T′ S′
   record-kept {o = o} e {v = v} {T′ = T′} {S′ = S′} k = record {
     grown = grown-within price (k .grown);
     tail = k .tail;

@@ -4,7 +4,6 @@ use entries::globals::GlobalVariable;
 use kinds::AddressSpace;
 use lookup::LookupType;
 use spirv::instructions::DECORATION_BINDING;
-use spirv::instructions::DECORATION_BLOCK;
 use spirv::instructions::DECORATION_DESCRIPTOR_SET;
 use spirv::instructions::DECORATION_NON_READABLE;
 use spirv::instructions::DECORATION_NON_WRITABLE;
@@ -13,11 +12,13 @@ use type_facts::Base;
 use writer::Writer;
 use writer::sections;
 ghost use mathlib.Core.Path.{_≡_};
+ghost use mathlib.Core.Bool.{false};
 ghost use mathlib.Core.List.{List, []};
 ghost use Prim.Native.Nat.{ℕ, _+_, _≤_};
 ghost use lib.Dec.{eqb};
 ghost use lib.ListN.{length};
 ghost use Rattle.definition.specs.Bytes.{nameAt, nameEnd};
+ghost use Rattle.definition.specs.Numbers.{DecorationBlock};
 ghost use Rattle.definition.specs.Instructions.{decorate, name};
 ghost use Rattle.definition.specs.Sheet.{storageSpace};
 ghost use Rattle.definition.specs.Rules.{annotateIf, labelIf, accessOf, decorateAccess, blockBase};
@@ -25,14 +26,14 @@ ghost use Rattle.kinds.specs.Numbers.{spaceNumber};
 ghost use Rattle.records.specs.Places.{typesFrom};
 ghost use Rattle.entries.specs.Globals.{globalOf};
 ghost use Rattle.type_facts.specs.Facets.{byteOf, indexOf};
-ghost use Rattle.writer.specs.Cost.{annotating, naming};
+ghost use Rattle.writer.specs.Cost.{annotating, naming, aBlock};
 ghost use Rattle.writer.specs.Held.{RoomFor, Room};
 ghost use Rattle.writer.specs.Steps.{Kept, Added};
 ghost use Rattle.writer_globals.specs.Globals.{bindingDecorated};
 
-// A decoration without operands, where it is asked for.
+// A decoration without operands, where it is asked for; not Block.
 fn decorate_if(sections: &mut [u32], w: Writer, there: bool, id: u64, decoration: u32) -> Writer
-    requires { ⌜ RoomFor (annotating 3) w (now sections) ⌝ }
+    requires { ⌜ RoomFor (annotating 3) w (now sections) × (eqb decoration DecorationBlock ≡ false) ⌝ }
     ensures { λ r. ⌜ Added (annotating 3) (annotateIf there (decorate id decoration [])) w (now (sections .entry)) r (now (sections .exit)) ⌝ }
 {
     if there {
@@ -95,16 +96,17 @@ pub fn name_global(sections: &mut [u32], w: Writer, debug: bool, id: u64, body: 
     writer::label(sections, w, id, fields::part(body, 1, k as usize))
 }
 
-// A Storage global is never wrapped where its type is a binding array: Block goes on the base, once for each such global.
+// A Storage global is never wrapped where its type is a binding array: Block goes on the base, unless the base has it from an
+// earlier global or from a dynamic array among its members.
 pub fn block_base(
-    tables: &[u64],
+    tables: &mut [u64],
     sections: &mut [u32],
     w: Writer,
     space: AddressSpace,
     base: Base,
 ) -> Writer
-    requires { ⌜ Room (annotating 3) w (now tables) (now sections) ⌝ }
-    ensures { λ r. ⌜ Kept (annotating 3) (blockBase (eqb (spaceNumber space) storageSpace) (indexOf base)) w (now (tables .entry)) (now (sections .entry)) r (now (tables .entry)) (now (sections .exit)) ⌝ }
+    requires { ⌜ Room aBlock w (now tables) (now sections) ⌝ }
+    ensures { λ r. ⌜ Kept aBlock (blockBase (eqb (spaceNumber space) storageSpace) (indexOf base)) w (now (tables .entry)) (now (sections .entry)) r (now (tables .exit)) (now (sections .exit)) ⌝ }
 {
     let AddressSpace::Storage { access: _ } = space else {
         return w;
@@ -113,7 +115,7 @@ pub fn block_base(
         Base::Nothing => w,
         Base::Of(b) => {
             let x = finding::type_id(tables, w, LookupType::Handle(b));
-            sections::decorate(sections, w, x, DECORATION_BLOCK, &[])
+            writer::block_once(tables, sections, w, x)
         }
     }
 }

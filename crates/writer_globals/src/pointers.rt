@@ -4,7 +4,6 @@ use entries::globals::GlobalVariable;
 use lookup::LocalType;
 use lookup::LookupType;
 use spirv::helpers::map_storage_class;
-use spirv::instructions::DECORATION_BLOCK;
 use type_facts::Base;
 use type_facts::Number;
 use writer::Taken;
@@ -36,7 +35,7 @@ pub enum PointerForm {
 
 // A struct around a type, and the pointer to it. Each global has its own, so neither is looked for or entered.
 fn write_wrapper(
-    tables: &[u64],
+    tables: &mut [u64],
     sections: &mut [u32],
     w: Writer,
     ty: u16,
@@ -44,11 +43,11 @@ fn write_wrapper(
     stride: Number,
 ) -> Taken
     requires { ⌜ Room wrapperCost w (now tables) (now sections) ⌝ }
-    ensures { λ r. ⌜ GotBy wrapperCost (wrapIn (numberOf stride) ty class) w (now (tables .entry)) (now (sections .entry)) r (now (tables .entry)) (now (sections .exit)) ⌝ }
+    ensures { λ r. ⌜ GotBy wrapperCost (wrapIn (numberOf stride) ty class) w (now (tables .entry)) (now (sections .entry)) r (now (tables .exit)) (now (sections .exit)) ⌝ }
 {
     let n = writer::take_id(w);
     let id = n.id;
-    let a = sections::decorate(sections, n.writer, id, DECORATION_BLOCK, &[]);
+    let a = writer::put_block(tables, sections, n.writer, id);
     let c = decorate_struct_member(sections, a, id, 0, 0, false, &[], stride);
     let x = finding::type_id(tables, c, LookupType::Handle(ty));
     let d = sections::type_struct(sections, c, id, &[x]);

@@ -50,7 +50,7 @@ image-cost d a c x y =
 abbrev pub entryCost : TypeInner → ℕ → Cost
 entryCost i n = innerCost i ⊕ aType ⊕ naming (n + 3)
 
-pub type-bytes : (t : ℕ) (b : List ℕ) → typeFields t b (nameEnd b 0) .end ≡ length b → AtMost (entryCost (typeFields t b (nameEnd b 0) .value) (nameLength (nameAt b 0))) (recordCost (length b + 3))
+pub type-bytes : (t : ℕ) (b : List ℕ) → typeFields t b (nameEnd b 0) .end ≡ length b → AtMost (entryCost (typeFields t b (nameEnd b 0) .value) (nameLength (nameAt b 0))) (recordCost 1 (length b + 3))
 unfolding typeFields
 type-bytes t b =
     let at = nameEnd b 0 in
@@ -61,7 +61,7 @@ type-bytes t b =
     let f = few b (at + 5) count in
     let p = pointer-cost (u8At b at) (kindOf (u8At b (at + 1)) (u8At b (at + 2))) (storageClass (u8At b (at + 3))) in
     let i = image-cost (u8At b at) (u8At b (at + 1)) (u8At b (at + 2)) (u8At b (at + 3)) (u8At b (at + 4)) in
-    let P : Fields TypeInner → Type 0 = λ f. f .end ≡ length b → AtMost (entryCost (f .value) (nameLength (nameAt b 0))) (recordCost (length b + 3)) in
+    let P : Fields TypeInner → Type 0 = λ f. f .end ≡ length b → AtMost (entryCost (f .value) (nameLength (nameAt b 0))) (recordCost 1 (length b + 3)) in
     pick-for P (eqb t 16) _ _ (λ e. omega (arith, e, n)) (pick-for P (eqb t 17) _ _ (λ e. omega (arith, e, n)) (pick-for P (eqb t 18) _ _ (λ e. omega (arith, e, n))
     (pick-for P (eqb t 19) _ _ (λ e. omega (arith, e, n)) (pick-for P (eqb t 20) _ _ (λ e. omega (arith, e, n)) (pick-for P (eqb t 21) _ _ (λ e. omega (arith, e, n, p))
     (pick-for P (eqb t 22) _ _ (λ e. omega (arith, e, n)) (pick-for P (eqb t 23) _ _ (λ e. omega (arith, e, n, m, l, f)) (pick-for P (eqb t 24) _ _ (λ e. omega (arith, e, n, i))

@@ -20,16 +20,15 @@ use Rattle.definition.specs.Rules.{strideMember, labelIf, decorateMember, matri
 use Rattle.type_facts.specs.declared.Number.{Number}
 use Rattle.type_facts.specs.Facets.{numberOf}
 use Rattle.writer.specs.declared.Writer.{Writer}
-use Rattle.writer.specs.Regions.{annotations}
-use Rattle.writer.specs.Cost.{naming, annotating, _⊕_}
+use Rattle.writer.specs.Cost.{naming, annotating, aBlock, _⊕_}
 use Rattle.writer.specs.Held.{Held, RoomFor, Grown}
-use Rattle.writer.specs.Steps.{Kept, Puts, Added}
+use Rattle.writer.specs.Steps.{Kept, Added}
 use Rattle.writer_members.specs.Members.{nameCost, memberDecorated}
 use Rattle.writer_members.specs.Members as Shared
 use Rattle.writer_types.specs.Members.{memberAt, decorated, StructPut}
 use Rattle.writer_types.specs.Costs.{nameLength, namedMemberCost, weight, membersCost, structCost}
 use Rattle.writer_types.proofs.Walking.{members-length, split, none-left, weight-split}
-use Rattle.writer_types.proofs.Named.{still, name-short}
+use Rattle.writer_types.proofs.Named.{name-short}
 use Rattle.writer_types.proofs.Passes.{as-defined}
 
 -- ---- one member
@@ -64,13 +63,13 @@ module _ (b : List ℕ) (p : ℕ) (r : Bool) {bs : List ℕ} (eb : bs ≡ orElse
 
 -- ---- Block
 
-pub unblocked : (d : Bool) (id : ℕ) → not d ≡ true → (w : Writer) (S : List ℕ) → Added (annotating 3) (annotateIf d (block id)) w S w S
-unblocked true id e w S = let z : _≡_ {A = ℕ} 0 1 = cc in absurd (omega arith)
-unblocked false id e w S = still (annotating 3) w S
+pub unblocked : (d : Bool) (id : ℕ) → not d ≡ true → (w : Writer) (T S : List ℕ) → Kept aBlock (annotateIf d (block id)) w T S w T S
+unblocked true id e w T S = let z : _≡_ {A = ℕ} 0 1 = cc in absurd (omega arith)
+unblocked false id e w T S = record { grown = omega arith; tail = record { parts = refl; ids = λ j l. refl }; held = λ s h. h }
 
-pub blocked : (d : Bool) (id : ℕ) → not d ≡ false → {w v : Writer} {S S′ : List ℕ} → Puts annotations 3 (block id) w S v S′ → Added (annotating 3) (annotateIf d (block id)) w S v S′
+pub blocked : (d : Bool) (id : ℕ) → not d ≡ false → {w v : Writer} {T S T′ S′ : List ℕ} → Kept aBlock (annotate (block id)) w T S v T′ S′ → Kept aBlock (annotateIf d (block id)) w T S v T′ S′
 blocked false id f p = let z : _≡_ {A = ℕ} 0 1 = cc in absurd (omega arith)
-blocked true id f p = record { grown = p .grown; held = p .held }
+blocked true id f p = record { grown = p .grown; tail = p .tail; held = p .held }
 
 -- ---- the members, one after the other
 
@@ -159,16 +158,16 @@ module _ (ts : List TypeEntry) (b : List ℕ) (first n : ℕ) where
 
 pub declared : (debug : Bool) (ts : List TypeEntry) (id : ℕ) (b : List ℕ) (first n : ℕ) (w : Writer) (T S : List ℕ)
     → (v : Writer) (S₁ : List ℕ) → Added (membersCost (membersAt b first n)) (decorated debug ts id 0 (membersAt b first n)) w S v S₁
-    → (d : Bool) → d ≡ anyDynamic ts (membersAt b first n) → (u : Writer) (S₂ : List ℕ) → Added (annotating 3) (annotateIf d (block id)) v S₁ u S₂
-    → (r : Writer) (S₃ : List ℕ) → StructPut id (membersAt b first n) n u T S₂ r S₃
-    → Kept (structCost (membersAt b first n)) (declareStruct debug ts id (membersAt b first n)) w T S r T S₃
-declared debug ts id b first n w T S v S₁ x d ed u S₂ y r S₃ z =
+    → (d : Bool) → d ≡ anyDynamic ts (membersAt b first n) → (u : Writer) (T₂ S₂ : List ℕ) → Kept aBlock (annotateIf d (block id)) v T S₁ u T₂ S₂
+    → (r : Writer) (S₃ : List ℕ) → StructPut id (membersAt b first n) n u T₂ S₂ r S₃
+    → Kept (structCost (membersAt b first n)) (declareStruct debug ts id (membersAt b first n)) w T S r T₂ S₃
+declared debug ts id b first n w T S v S₁ x d ed u T₂ S₂ y r S₃ z =
     record {
       grown = omega (arith, x .grown, y .grown, z .grown, members-length b first n);
-      tail = record { parts = omega (arith, x .grown, y .grown, z .grown); ids = λ j l. refl };
+      tail = record { parts = omega (arith, x .grown, y .grown, z .grown); ids = λ j l. y .tail .ids j (omega (arith, x .grown)) };
       held = λ s h.
           let ms = membersAt b first n in
           let m = decorated debug ts id 0 ms s in
-          let k = subst (λ (c : Bool). Held u T S₂ (annotateIf c (block id) m)) ed (y .held T m (x .held T s h)) in
-          subst (Held r T S₃) (as-defined debug ts id ms s) (z .held (annotateIf (anyDynamic ts ms) (block id) m) k);
+          let k = subst (λ (c : Bool). Held u T₂ S₂ (annotateIf c (block id) m)) ed (y .held m (x .held T s h)) in
+          subst (Held r T₂ S₃) (as-defined debug ts id ms s) (z .held (annotateIf (anyDynamic ts ms) (block id) m) k);
     }

@@ -50,9 +50,9 @@ module _ (b : List ℕ) (first p c : ℕ) (e : first ≡ p) (w : Writer) (T S : 
   pub struct-room : Room (structCost (membersAt b p c)) w T S → Room (structCost (membersAt b first c)) w T S
   struct-room r = subst (λ (q : ℕ). Room (structCost (membersAt b q c)) w T S) (sym e) r
 
-  pub struct-written : (debug : Bool) (ts : List TypeEntry) (id : ℕ) (v : Writer) (S′ : List ℕ) → Kept (structCost (membersAt b first c)) (declareStruct debug ts id (membersAt b first c)) w T S v T S′
-      → Kept (structCost (membersAt b p c)) (declareStruct debug ts id (membersAt b p c)) w T S v T S′
-  struct-written debug ts id v S′ k = subst (λ (q : ℕ). Kept (structCost (membersAt b q c)) (declareStruct debug ts id (membersAt b q c)) w T S v T S′) e k
+  pub struct-written : (debug : Bool) (ts : List TypeEntry) (id : ℕ) (v : Writer) (T′ S′ : List ℕ) → Kept (structCost (membersAt b first c)) (declareStruct debug ts id (membersAt b first c)) w T S v T′ S′
+      → Kept (structCost (membersAt b p c)) (declareStruct debug ts id (membersAt b p c)) w T S v T′ S′
+  struct-written debug ts id v T′ S′ k = subst (λ (q : ℕ). Kept (structCost (membersAt b q c)) (declareStruct debug ts id (membersAt b q c)) w T S v T′ S′) e k
 
 -- ---- a shape or an aggregate: m is what the program makes of the entry
 
@@ -86,14 +86,14 @@ module _ (b : List ℕ) (t : Program.TypeInner) (read : TypeRead b t) where
   abbrev i : TypeInner
   i = innerIn b t
 
-  pub enough : AtMost (entryCost i (nameLength (nameAt b 0))) (recordCost (length b + 3))
+  pub enough : AtMost (entryCost i (nameLength (nameAt b 0))) (recordCost 1 (length b + 3))
   enough = rw (read .taken (read .tested .values)) (type-bytes (read .tag) b (read .tested .whole))
 
   pub whole : (debug : Bool) (ts : List TypeEntry) (n : ℕ) → n ≡ length ts → (w : Writer) (T S : List ℕ) (g : Taken) (T₁ S₁ : List ℕ)
       → GotBy (innerCost i) (innerDeclared debug ts i) w T S g T₁ S₁
       → (key : ℕ) → key ≡ packedKey (entry n) → Small (entry n) → (v : Writer) (T₂ : List ℕ) → EnteredType key (g .id) (g .writer) T₁ v T₂
       → (u : Writer) (S₂ : List ℕ) → Added (naming (nameLength (nameAt b 0) + 3)) (labelIf debug (name (g .id)) (nameAt b 0)) v S₁ u S₂
-      → (x : TypeEntry) → EntryOf b t x → Kept (recordCost (length b + 3)) (declareType debug ts x) w T S u T₂ S₂
+      → (x : TypeEntry) → EntryOf b t x → Kept (recordCost 1 (length b + 3)) (declareType debug ts x) w T S u T₂ S₂
   unfolding declareType
   whole debug ts n en w T S g T₁ S₁ p key ek sm v T₂ q u S₂ a x e =
       record {

@@ -8,7 +8,7 @@ use Rattle.definition.specs.Choice.{orElse}
 use Rattle.definition.specs.Sheet.{Member, TypeInner}
 use Rattle.definition.specs.Sheet.{Scalar, Vector, Matrix, Atomic, Pointer, ValuePointer, Array, Struct, Image, Sampler, AccelerationStructure, RayQuery, BindingArray}
 use Rattle.definition.specs.Shapes.{Shape, shapeOf, shape}
-use Rattle.writer.specs.Cost.{Cost, noCost, anId, naming, annotating, declaring, _⊕_}
+use Rattle.writer.specs.Cost.{Cost, noCost, anId, naming, annotating, aBlock, declaring, _⊕_}
 use Rattle.finding.specs.Costs.{costOf, literalCost}
 
 -- ---- names
@@ -44,7 +44,7 @@ membersCost ms = annotating (2 * weight ms) ⊕ naming (weight ms)
 
 -- the members, Block, the instruction
 abbrev pub structCost : List Member → Cost
-structCost ms = membersCost ms ⊕ annotating 3 ⊕ declaring (length ms + 2)
+structCost ms = membersCost ms ⊕ aBlock ⊕ declaring (length ms + 2)
 
 -- ---- an entry, without its key and its name
 

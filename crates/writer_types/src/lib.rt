@@ -137,8 +137,8 @@ pub fn write_type_declaration_arena(
     ty: TypeInner,
     debug: bool,
 ) -> Writer
-    requires { ⌜ (ntypes ≤ length (now types)) × ((ntypes < 65536) × (TypeRead (now body) ty × Room (recordCost (length (now body) + 3)) w (now tables) (now sections))) ⌝ }
-    ensures { λ r. ⌜ ((x : TypeEntry) → EntryOf (now (body .entry)) ty x → Kept (recordCost (length (now (body .entry)) + 3)) (declareType debug (typesFrom (now (sheet .entry)) (now (types .entry)) ntypes) x) w (now (tables .entry)) (now (sections .entry)) r (now (tables .exit)) (now (sections .exit))) ⌝ }
+    requires { ⌜ (ntypes ≤ length (now types)) × ((ntypes < 65536) × (TypeRead (now body) ty × Room (recordCost 1 (length (now body) + 3)) w (now tables) (now sections))) ⌝ }
+    ensures { λ r. ⌜ ((x : TypeEntry) → EntryOf (now (body .entry)) ty x → Kept (recordCost 1 (length (now (body .entry)) + 3)) (declareType debug (typesFrom (now (sheet .entry)) (now (types .entry)) ntypes) x) w (now (tables .entry)) (now (sections .entry)) r (now (tables .exit)) (now (sections .exit))) ⌝ }
 {
     let g = declare_inner(tables, sections, w, sheet, types, ntypes, body, debug, ty);
     let k = lookup::key(LookupType::Handle(ntypes as u16));

@@ -3,11 +3,9 @@
 use crate::aggregates::put_struct;
 use crate::names::is_written;
 use entries::members::name_part;
-use spirv::instructions::DECORATION_BLOCK;
 use type_facts::element_stride;
 use type_facts::is_dynamic;
 use writer::Writer;
-use writer::sections;
 use writer_members::decorate_struct_member;
 ghost use mathlib.Core.Path.{_≡_};
 ghost use Prim.Native.Nat.{_+_, _≤_, _<_};
@@ -16,7 +14,7 @@ ghost use Rattle.definition.specs.Bytes.{nameAt};
 ghost use Rattle.definition.specs.Sheet.{membersAt};
 ghost use Rattle.definition.specs.Rules.{decorateMember, anyDynamic, annotateIf, block, declareStruct};
 ghost use Rattle.records.specs.Places.{typesFrom};
-ghost use Rattle.writer.specs.Cost.{annotating};
+ghost use Rattle.writer.specs.Cost.{aBlock};
 ghost use Rattle.writer.specs.Held.{RoomFor, Room};
 ghost use Rattle.writer.specs.Steps.{Kept, Added};
 ghost use Rattle.writer_types.specs.Members.{memberAt, decorated};
@@ -91,20 +89,20 @@ fn has_runtime_array(s: &[u8], types: &[u32], n: usize, b: &[u8], first: usize, 
     false
 }
 
-// Block goes on a struct with a dynamic array.
-fn block_if(sections: &mut [u32], w: Writer, dynamic: bool, id: u64) -> Writer
-    requires { ⌜ RoomFor (annotating 3) w (now sections) ⌝ }
-    ensures { λ r. ⌜ Added (annotating 3) (annotateIf dynamic (block id)) w (now (sections .entry)) r (now (sections .exit)) ⌝ }
+// Block goes on a struct with a dynamic array, whose id has just been taken: nothing is on it yet.
+fn block_if(tables: &mut [u64], sections: &mut [u32], w: Writer, dynamic: bool, id: u64) -> Writer
+    requires { ⌜ Room aBlock w (now tables) (now sections) ⌝ }
+    ensures { λ r. ⌜ Kept aBlock (annotateIf dynamic (block id)) w (now (tables .entry)) (now (sections .entry)) r (now (tables .exit)) (now (sections .exit)) ⌝ }
 {
     if !dynamic {
         return w;
     }
-    sections::decorate(sections, w, id, DECORATION_BLOCK, &[])
+    writer::put_block(tables, sections, w, id)
 }
 
 // A struct of `count` members, the first of which stands at `first`.
 pub fn write_struct(
-    tables: &[u64],
+    tables: &mut [u64],
     sections: &mut [u32],
     w: Writer,
     sheet: &[u8],
@@ -117,7 +115,7 @@ pub fn write_struct(
     count: u8,
 ) -> Writer
     requires { ⌜ (ntypes ≤ length (now types)) × ((first < 1000) × Room (structCost (membersAt (now body) first count)) w (now tables) (now sections)) ⌝ }
-    ensures { λ r. ⌜ Kept (structCost (membersAt (now (body .entry)) first count)) (declareStruct debug (typesFrom (now (sheet .entry)) (now (types .entry)) ntypes) id (membersAt (now (body .entry)) first count)) w (now (tables .entry)) (now (sections .entry)) r (now (tables .entry)) (now (sections .exit)) ⌝ }
+    ensures { λ r. ⌜ Kept (structCost (membersAt (now (body .entry)) first count)) (declareStruct debug (typesFrom (now (sheet .entry)) (now (types .entry)) ntypes) id (membersAt (now (body .entry)) first count)) w (now (tables .entry)) (now (sections .entry)) r (now (tables .exit)) (now (sections .exit)) ⌝ }
 {
     let v = decorate_struct_members(
         sections,
@@ -132,6 +130,6 @@ pub fn write_struct(
         count,
     );
     let d = has_runtime_array(sheet, types, ntypes, body, first, count);
-    let u = block_if(sections, v, d, id);
+    let u = block_if(tables, sections, v, d, id);
     put_struct(tables, sections, u, body, id, first, count)
 }

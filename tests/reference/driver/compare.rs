@@ -7,8 +7,9 @@ use crate::generator::{self, Case, Expect, Listing, Longer, Random, Words, OPCOD
 use crate::lines::{self, Line, Question};
 use crate::reached::Reached;
 use crate::reference;
+use crate::repeats::repeat_in;
 use crate::second::{self, Refusal};
-use crate::sheet::{has_functions, has_halves, HEADER, MAX_BOUND};
+use crate::sheet::{has_bases, has_functions, has_halves, HEADER, MAX_BOUND};
 use std::collections::BTreeSet;
 
 pub const SEED: u64 = 0x0907_0004_1943_0300;
@@ -21,6 +22,9 @@ const FUNCTIONS_SEED: u64 = 0x0900_0048_0033_0202;
 
 /// Of what paper 3 adds.
 const LISTS_SEED: u64 = 0x0900_0005_0018_0203;
+
+/// Of what paper 5 adds.
+const BLOCKS_SEED: u64 = 0x0900_0002_0071_0205;
 
 /// Of a run at scale, where no other is said.
 pub const SCALE_SEED: u64 = 0x0316_0040_9600_1719;
@@ -36,8 +40,9 @@ const STRIDE: usize = 50_000;
 
 /// What a sheet has to be answered with.
 enum Expected {
-    /// The Rust's words, and for each global whether it is wrapped.
-    Module { words: Vec<u32>, wrapped: Vec<bool> },
+    /// The Rust's words without its repeats, for each global whether it is wrapped, and the
+    /// instructions that were dropped as repeats.
+    Module { words: Vec<u32>, wrapped: Vec<bool>, dropped: Vec<Vec<u32>> },
     /// By number and, where the Rust gives it, by record.
     Refused { number: u8, record: Option<usize> },
     /// Bytes changed at random, where only the second reading has an opinion: it
@@ -124,10 +129,10 @@ fn lists() -> Vec<ListAsked> {
 }
 
 fn lists_by_heading() -> Vec<(&'static str, Vec<ListAsked>)> {
-    let mut random = Random::new(LISTS_SEED, PAPERS);
+    let mut random = Random::new(LISTS_SEED, 3);
     let mut modules = Vec::new();
     for sheet in generator::sheets_to_list(&mut random) {
-        if let reference::Answer::Module(words, _) = reference::run(&sheet) {
+        if let (reference::Answer::Module(words, _), _) = reference::run_without_repeats(&sheet) {
             modules.push(words);
         }
     }
@@ -179,9 +184,11 @@ fn compiled_list_difference(one: &ListAsked, compiled: &mut Compiled) -> Option<
 }
 
 fn ask_reference(sheet: &[u8]) -> Option<Expected> {
-    match std::panic::catch_unwind(|| reference::run(sheet)) {
-        Ok(reference::Answer::Module(words, wrapped)) => Some(Expected::Module { words, wrapped }),
-        Ok(reference::Answer::Missing(record)) => {
+    match std::panic::catch_unwind(|| reference::run_without_repeats(sheet)) {
+        Ok((reference::Answer::Module(words, wrapped), dropped)) => {
+            Some(Expected::Module { words, wrapped, dropped })
+        }
+        Ok((reference::Answer::Missing(record), _)) => {
             Some(Expected::Refused { number: 14, record: Some(record) })
         }
         Err(_) => {
@@ -201,13 +208,14 @@ fn end_of_record(sheet: &[u8], index: usize) -> usize {
 }
 
 /// Every case of a run: the sweep, families, edges and `count` random ones of document
-/// 01's, then those of paper 1, of paper 2 and of paper 4.
+/// 01's, then those of paper 1, of paper 2, of paper 4 and of paper 5.
 fn cases(count: usize) -> Vec<Case> {
     let mut cases = swept();
     cases.extend(unswept(count));
     cases.extend(halved(count));
     cases.extend(with_functions(count));
     cases.extend(generator::strides());
+    cases.extend(with_blocks(count));
     cases
 }
 
@@ -218,13 +226,17 @@ fn swept() -> Vec<Case> {
 fn unswept(count: usize) -> Vec<Case> {
     let mut random = Random::new(SEED, 0);
     let mut cases = generator::families(&mut random);
-    let bound_of = |sheet: &[u8]| match reference::run(sheet) {
-        reference::Answer::Module(words, _) => Some(words[3]),
-        reference::Answer::Missing(_) => None,
-    };
     cases.extend(generator::edges(&mut random, &bound_of));
     cases.extend(drawn(&mut random, count));
     cases
+}
+
+/// The reference's bound, unless a capability is missing.
+fn bound_of(sheet: &[u8]) -> Option<u32> {
+    match reference::run(sheet) {
+        reference::Answer::Module(words, _) => Some(words[3]),
+        reference::Answer::Missing(_) => None,
+    }
 }
 
 /// The families of 16-bit floats, and random sheets that may have such types.
@@ -239,6 +251,14 @@ fn halved(count: usize) -> Vec<Case> {
 fn with_functions(count: usize) -> Vec<Case> {
     let mut random = Random::new(FUNCTIONS_SEED, 2);
     let mut cases = generator::functions(&mut random);
+    cases.extend(drawn(&mut random, count));
+    cases
+}
+
+/// The families of Block on bases, and random sheets in which that comes up often.
+fn with_blocks(count: usize) -> Vec<Case> {
+    let mut random = Random::new(BLOCKS_SEED, 5);
+    let mut cases = generator::blocks(&bound_of);
     cases.extend(drawn(&mut random, count));
     cases
 }
@@ -331,8 +351,11 @@ fn difference(asked: &Asked, fault: Option<Fault>) -> Option<String> {
         (Expected::Module { .. }, Err(r)) => {
             Some(format!("expected are words, not {}", refused(&r)))
         }
-        (Expected::Module { words, wrapped }, Ok(s)) => {
+        (Expected::Module { words, wrapped, .. }, Ok(s)) => {
             let own = s.words();
+            if let Some(what) = repeat_in(&own) {
+                return Some(what);
+            }
             if own != *words {
                 let at = own.iter().zip(words).take_while(|(a, b)| a == b).count();
                 return Some(format!("words differ from word {at} on"));
@@ -344,7 +367,7 @@ fn difference(asked: &Asked, fault: Option<Fault>) -> Option<String> {
 
 /// Declare's and Wrapped's own refusals beside an accepted sheet.
 fn own_refusals(asked: &Asked) -> Option<String> {
-    let Expected::Module { words, wrapped } = &asked.expected else { return None };
+    let Expected::Module { words, wrapped, .. } = &asked.expected else { return None };
     let number = |r: Result<_, Refusal>| r.map_err(|r| r.number);
     let short = second::declare(&asked.sheet, words.len() - 1, None).map(|_| ());
     let exact = second::declare(&asked.sheet, words.len(), None).map(|_| ());
@@ -353,11 +376,28 @@ fn own_refusals(asked: &Asked) -> Option<String> {
     (!good).then(|| "16 or 17 is not where it belongs".to_string())
 }
 
+/// What is wrong with the instructions that were dropped from the Rust's words, if something
+/// is: each must be a Block, and the words must be found to have a repeat with it, and none
+/// without.
+fn dropped_wrongly(asked: &Asked) -> Option<String> {
+    let Expected::Module { words, dropped, .. } = &asked.expected else { return None };
+    if let Some(what) = repeat_in(words) {
+        return Some(format!("what is left has a repeat: {what}"));
+    }
+    dropped.iter().find_map(|instruction| match reference::is_block(instruction) {
+        false => Some(format!("something else than Block: {}", lines::show_words(instruction))),
+        true => {
+            let unseen = repeat_in(&[&words[..], instruction].concat()).is_none();
+            unseen.then(|| format!("no repeat: {}", lines::show_words(instruction)))
+        }
+    })
+}
+
 /// How the compiled code differs from what is expected, if it does. It is held to
 /// the second reading's opinion too.
 fn compiled_difference(asked: &Asked, compiled: &mut Compiled) -> Option<String> {
     match &asked.expected {
-        Expected::Module { words, wrapped } => compiled.accepted(&asked.sheet, words, wrapped),
+        Expected::Module { words, wrapped, .. } => compiled.accepted(&asked.sheet, words, wrapped),
         Expected::Refused { number, .. } | Expected::Opinion(number) => {
             compiled.refused(&asked.sheet, *number)
         }
@@ -374,6 +414,9 @@ struct Tally {
     halves: usize,
     /// Modules of sheets with function records.
     functions: usize,
+    /// Modules that the Rust writes with repeats, and the instructions dropped from them.
+    repeating: usize,
+    dropped: usize,
     words: usize,
     largest: usize,
     missing: usize,
@@ -396,6 +439,8 @@ impl Tally {
             modules: 0,
             halves: 0,
             functions: 0,
+            repeating: 0,
+            dropped: 0,
             words: 0,
             largest: 0,
             missing: 0,
@@ -412,10 +457,12 @@ impl Tally {
     fn hold(&mut self, one: &Asked) {
         self.sheets += 1;
         match &one.expected {
-            Expected::Module { words, .. } => {
+            Expected::Module { words, dropped, .. } => {
                 self.modules += 1;
                 self.halves += has_halves(&one.sheet) as usize;
                 self.functions += has_functions(&one.sheet) as usize;
+                self.repeating += !dropped.is_empty() as usize;
+                self.dropped += dropped.len();
                 self.words += words.len();
                 self.largest = self.largest.max(words.len());
                 self.reached.accepted(&one.sheet);
@@ -433,7 +480,12 @@ impl Tally {
         if compiled::LINKED {
             of_compiled = compiled_difference(one, &mut self.compiled);
         }
-        self.report_differences(of_second, of_compiled, || lines::hex(&one.sheet));
+        let sides = [
+            ("dropped from the Rust's words", dropped_wrongly(one)),
+            ("the second reading", of_second),
+            ("the compiled code", of_compiled),
+        ];
+        self.report_differences(sides, || lines::hex(&one.sheet));
         // The module, and the module with one thing changed, are listed too.
         if let Expected::Module { words, .. } = &one.expected {
             self.hold_list(&ListAsked::module(words));
@@ -457,17 +509,16 @@ impl Tally {
             of_compiled = compiled_list_difference(one, &mut self.compiled);
         }
         let asks = || lines::asks_to_list(&one.words, None);
-        self.report_differences(of_second, of_compiled, asks);
+        let sides = [("the second reading", of_second), ("the compiled code", of_compiled)];
+        self.report_differences(sides, asks);
     }
 
-    fn report_differences(
+    fn report_differences<const SIDES: usize>(
         &mut self,
-        of_second: Option<String>,
-        of_compiled: Option<String>,
+        sides: [(&str, Option<String>); SIDES],
         asks: impl Fn() -> String,
     ) {
-        for (side, what) in [("the second reading", of_second), ("the compiled code", of_compiled)]
-        {
+        for (side, what) in sides {
             let Some(what) = what else { continue };
             self.differences += 1;
             if self.differences <= 5 {
@@ -507,6 +558,15 @@ impl Tally {
              again the same; {} by the second reading's opinion alone",
             self.lists, self.listed, self.list_opinions
         );
+        println!(
+            "of the Rust's modules {} have repeats, {} instructions, which were dropped{}",
+            self.repeating,
+            self.dropped,
+            match self.differences {
+                0 => ": each is a Block; no module of another side has a repeat",
+                _ => "",
+            }
+        );
         println!("{}", self.sides());
         self.differences == 0
     }
@@ -520,7 +580,11 @@ pub fn run(count: usize) -> bool {
         all.iter().for_each(|one| tally.hold(one));
     }
     lists().iter().for_each(|one| tally.hold_list(one));
-    let complete = tally.reached.report();
+    let mut complete = tally.reached.report();
+    if tally.repeating == 0 {
+        println!("no module of the Rust's has a repeat");
+        complete = false;
+    }
     tally.report(SEED) && complete
 }
 
@@ -724,9 +788,8 @@ pub fn counts_of_lines(stored: &[Line]) -> bool {
     let mut seen = BTreeSet::new();
     for line in stored {
         if line.refused().is_none() && matches!(line.question, Question::Declare { .. }) {
-            let words: Option<Vec<u32>> =
-                line.answer.split(' ').map(|w| u32::from_str_radix(w, 16).ok()).collect();
-            seen.extend(generator::instructions(&words.unwrap_or_default()));
+            let words = lines::module_of(&line.answer).unwrap_or_default();
+            seen.extend(generator::instructions(&words));
         }
     }
     let (due, missing) = generator::counts_missing(&seen);
@@ -767,6 +830,10 @@ pub fn print_fresh(count: usize, seed: u64) -> bool {
         let Some(one) = asked_of(random_case(&mut random, n)).and_then(|mut all| all.pop()) else {
             return false;
         };
+        if let Some(what) = dropped_wrongly(&one) {
+            println!("dropped from the Rust's words: {what}\n  {}", lines::hex(&one.sheet));
+            return false;
+        }
         let line = line(&one);
         if line.len() <= LONGEST_FRESH {
             println!("{line}");
@@ -797,6 +864,17 @@ fn line(one: &Asked) -> String {
     format!("{} | {answer}", lines::hex(&one.sheet))
 }
 
+/// How long the line would be with the Rust's repeats in it: by this sheets were chosen before
+/// paper 5, and it drops none of them.
+fn length_with_repeats(one: &Asked) -> usize {
+    let dropped = match &one.expected {
+        Expected::Module { dropped, .. } => dropped.concat().len(),
+        _ => 0,
+    };
+    // A word is eight digits and a space.
+    line(one).len() + 9 * dropped
+}
+
 /// One line of the stored sample; where a capability is missing, also the two cuts
 /// that show at which record.
 fn store(one: &Asked) {
@@ -808,26 +886,38 @@ fn store(one: &Asked) {
     }
 }
 
-/// The latest paper that a sheet has something of: function records, or else 16-bit floats.
-fn paper_of(sheet: &[u8]) -> usize {
-    match (has_functions(sheet), has_halves(sheet)) {
-        (true, _) => 2,
-        (false, true) => 1,
-        (false, false) => 0,
+/// Whether a sheet stands in a paper's part of the sample. The latest of the first two papers
+/// that it has something of is that one, function records or else 16-bit floats; or, for
+/// paper 5, a base gets Block.
+fn is_of_paper(sheet: &[u8], paper: u8) -> bool {
+    match paper {
+        5 => has_bases(sheet),
+        _ => {
+            let latest = match (has_functions(sheet), has_halves(sheet)) {
+                (true, _) => 2,
+                (false, true) => 1,
+                (false, false) => 0,
+            };
+            latest == paper
+        }
     }
 }
 
 /// The stored sample, all of the comparison's domain: document 01's part, then those of the
-/// papers, each of whose sheets has something of that paper and of none behind it.
+/// papers, each of whose sheets has something of that paper; up to paper 2 of none behind it.
+/// The faults of paper 5 are shown in its own part.
 pub fn print_sample() -> bool {
-    let mut faults = FAULTS.to_vec();
-    faults.retain(|(fault, _)| !fault.of_lists());
+    let (mut of_blocks, mut faults) = (Vec::new(), Vec::new());
+    for &(fault, what) in FAULTS.iter().filter(|(fault, _)| !fault.of_lists()) {
+        if fault.of_blocks() { &mut of_blocks } else { &mut faults }.push((fault, what));
+    }
     let parts = [
-        (unswept(0).len(), unswept(6_000), 4),
-        (halved(0).len(), halved(1_500), 1),
-        (with_functions(0).len(), with_functions(1_500), 1),
+        (0, unswept(0).len(), unswept(6_000), 4),
+        (1, halved(0).len(), halved(1_500), 1),
+        (2, with_functions(0).len(), with_functions(1_500), 1),
+        (5, with_blocks(0).len(), with_blocks(1_500), 1),
     ];
-    for (paper, (families, mut cases, quarters)) in parts.into_iter().enumerate() {
+    for (paper, families, mut cases, quarters) in parts {
         if paper > 0 {
             println!("# paper {paper}");
         }
@@ -835,9 +925,12 @@ pub fn print_sample() -> bool {
         let (Some(mut families), Some(mut random)) = (asked(cases), asked(random)) else {
             return false;
         };
-        let stays = |one: &Asked| by_rust(one) && paper_of(&one.sheet) == paper;
+        let stays = |one: &Asked| by_rust(one) && is_of_paper(&one.sheet, paper);
         families.retain(stays);
         random.retain(stays);
+        if paper == 5 {
+            faults.append(&mut of_blocks);
+        }
         print_part(&families, &random, quarters, &mut faults);
     }
     true
@@ -873,7 +966,7 @@ fn print_part(
     });
     let spread = |all: &[Asked], count: usize, lengths: std::ops::Range<usize>| {
         let fitting: Vec<&Asked> =
-            all.iter().filter(|one| lengths.contains(&line(one).len())).collect();
+            all.iter().filter(|one| lengths.contains(&length_with_repeats(one))).collect();
         for n in 0..count {
             store(fitting[n * fitting.len() / count]);
         }

@@ -6,6 +6,7 @@
 //! report each.
 
 use crate::lines::{self, Question};
+use crate::repeats::repeat_in;
 
 /// Whether the compiled code is linked.
 pub const LINKED: bool = cfg!(compiled);
@@ -194,6 +195,13 @@ impl Compiled {
                 Slip::Short | Slip::RefusedBuffer => self.room[BESIDE + place(room)] ^= 1,
                 Slip::Empty => answer = 1 << 32,
                 _ => unreachable!("no slip of Declare's"),
+            }
+        }
+        // Whatever is due, a module repeats no decoration.
+        if answer >> 32 != 0 {
+            let end = (answer as u32 as usize).min(room);
+            if let Some(what) = repeat_in(&self.room[BESIDE..BESIDE + end]) {
+                return Some(format!("of Declare's module, {what}"));
             }
         }
         let show = |n: u64| match n >> 32 {

@@ -60,7 +60,7 @@ faults! {
     BlockBeforeMembers: "Block comes before the members' decorations",
     BlockByLastMember: "Block only if the last member is dynamic",
     BindingArrayIsDynamic: "a dynamic BindingArray member brings Block",
-    BlockOnce: "Block is not repeated on a base",
+    BlockRepeated: "Block is repeated on a base",
     AccessSwapped: "NonReadable and NonWritable change places",
     ImageAccessIgnored: "a storage image's access is ignored",
     AccessThroughBindingArray: "a BindingArray of images takes their access",
@@ -270,12 +270,31 @@ faults! {
     Stride4Of8: "the stride of four rows of width 8 is 4 bytes too long",
     StridesExchanged: "the strides of four rows of the widths 4 and 8 change places",
     StrideTableByColumns: "the table of strides is read by columns",
+    // Paper 5.
+    LaterBlockStays: "of two Blocks on a base the later one stays",
+    BlockOnOneBaseAlone: "a base gets no Block where another base has it",
+    BlockNotBehindWrapper: "a base gets no Block where a wrapper has it",
+    BlockByOtherSpaces: "a base gets no Block behind a global of it that is not in Storage space",
+    BlockOfMembersRepeated: "Block is repeated on a base that has it by a dynamic array",
+    BlockOfEarlierMembersRepeated: "Block is repeated on a base whose dynamic array is not its last member",
+    BlockOfEachBindingArray: "Block is repeated on a base for each BindingArray of it",
+    BlockOfEachEntry: "Block is repeated on a base for each entry of its id",
+    BlockBehindOtherBase: "Block is repeated on a base behind another base's",
+    BlockRepeatedRemapped: "Block is repeated on the base of a remapped BindingArray",
+    DecorationOfOtherMember: "a member's decoration is dropped where another member of its struct has it",
+    EqualNamesDropped: "a name is dropped where its id has an equal one",
 }
 
 impl Fault {
     /// Whether it is one of paper 3's, which lists of words show and sheets do not.
     pub fn of_lists(self) -> bool {
         (Fault::ListWithoutFront as usize..=Fault::ListFrontLeft as usize)
+            .contains(&(self as usize))
+    }
+
+    /// Whether it is one of paper 5's.
+    pub fn of_blocks(self) -> bool {
+        (Fault::LaterBlockStays as usize..=Fault::EqualNamesDropped as usize)
             .contains(&(self as usize))
     }
 }

@@ -133,6 +133,11 @@ pub fn show_words(words: &[u32]) -> String {
     words.iter().map(|w| format!("{w:08x}")).collect::<Vec<_>>().join(" ")
 }
 
+/// The words of an answer that is some.
+pub fn module_of(answer: &str) -> Option<Vec<u32>> {
+    answer.split(' ').map(|word| u32::from_str_radix(word, 16).ok()).collect()
+}
+
 pub fn show_wrapped(wrapped: bool) -> String {
     if wrapped { "yes" } else { "no" }.to_string()
 }
@@ -175,19 +180,23 @@ pub fn second_list(words: &[u32], room: usize, fault: Option<Fault>) -> Result<V
     }
 }
 
-/// The reference's answer to a sheet of the comparison's domain. That a buffer is
-/// too short or a global does not exist is no affair of the Rust's. On a sheet
-/// outside the domain it may panic, which is an answer too: a wrong one.
+/// The reference's answer to a sheet of the comparison's domain, its repeats of Block dropped
+/// (paper 5). That a buffer is too short or a global does not exist is no affair of the
+/// Rust's. On a sheet outside the domain it may panic, which is an answer too: a wrong one.
+/// So is a repeat of anything else.
 pub fn reference_answer(sheet: &[u8], question: Question) -> String {
-    let answer = std::panic::catch_unwind(|| reference::run(sheet));
+    let answer = std::panic::catch_unwind(|| reference::run_without_repeats(sheet));
+    let Ok((answer, dropped)) = answer else { return String::from("panics") };
+    if let Some(other) = dropped.iter().find(|instruction| !reference::is_block(instruction)) {
+        return format!("repeats {}", show_words(other));
+    }
     match (answer, question) {
-        (Err(_), _) => String::from("panics"),
-        (Ok(reference::Answer::Missing(_)), _) => refused(14),
-        (Ok(reference::Answer::Module(words, _)), Question::Declare { .. }) => show_words(&words),
-        (Ok(reference::Answer::Module(_, wrapped)), Question::Wrapped { index }) => {
+        (reference::Answer::Missing(_), _) => refused(14),
+        (reference::Answer::Module(words, _), Question::Declare { .. }) => show_words(&words),
+        (reference::Answer::Module(_, wrapped), Question::Wrapped { index }) => {
             wrapped.get(index).map_or(String::from("no such global"), |w| show_wrapped(*w))
         }
-        (Ok(reference::Answer::Module(..)), Question::List { .. }) => {
+        (reference::Answer::Module(..), Question::List { .. }) => {
             String::from("the Rust has no list")
         }
     }

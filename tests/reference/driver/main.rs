@@ -7,6 +7,7 @@ mod generator;
 mod lines;
 mod reached;
 mod reference;
+mod repeats;
 mod second;
 mod sheet;
 
@@ -134,7 +135,8 @@ fn answer(side: &str) -> bool {
 }
 
 /// Holds the answers of files against the second reading and the compiled code, and
-/// against the reference wherever they say that a sheet lies in its domain.
+/// against the reference wherever they say that a sheet lies in its domain; no side's module
+/// may repeat a decoration.
 fn replay(files: &[&str]) -> bool {
     let mut good = true;
     for file in files {
@@ -151,7 +153,14 @@ fn replay_lines(file: &str, lines: &[lines::Line]) -> bool {
     let mut wrong = 0;
     for line in lines {
         let mut hold = |side: &str, answer: String| {
-            if answer != line.answer {
+            let module = match line.question {
+                lines::Question::Declare { .. } => lines::module_of(&answer),
+                _ => None,
+            };
+            if let Some(what) = module.and_then(|words| repeats::repeat_in(&words)) {
+                wrong += 1;
+                println!("{file}: {side}: {what}\n  {}", line.asks());
+            } else if answer != line.answer {
                 wrong += 1;
                 println!("{file}: {side} answers {answer}\n  to {}", line.asks());
                 println!("  and there stands {}", line.answer);

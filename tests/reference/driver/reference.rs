@@ -6,6 +6,7 @@ use naga::back::spv;
 use naga::proc::TypeResolution;
 use naga::valid::ModuleInfo;
 use naga::{Expression, Handle, Span, TypeInner, VectorSize};
+use std::collections::HashSet;
 use std::num::NonZeroU32;
 
 /// What the Rust makes of a sheet.
@@ -87,6 +88,55 @@ fn put_float16(words: &mut Vec<u32>, before: usize) {
     assert!(listed().count() >= before && listed().all(|at| words[at + 1] != FLOAT16));
     let at = MODULE_HEADER + 2 * before;
     words.splice(at..at, [CAPABILITY, FLOAT16]);
+}
+
+/// What `run` answers, held against the other sides: paper 5, "Runs against the Rust drop its
+/// repeats before comparing". Beside it the instructions that were dropped, in order.
+pub fn run_without_repeats(bytes: &[u8]) -> (Answer, Vec<Vec<u32>>) {
+    match run(bytes) {
+        Answer::Module(words, wrapped) => {
+            let (words, dropped) = drop_repeats(&words);
+            (Answer::Module(words, wrapped), dropped)
+        }
+        missing => (missing, Vec::new()),
+    }
+}
+
+/// Paper 5: "no id carries the same decoration twice, and no member either. The first writing
+/// stays and later ones are dropped." The same is what has the same number. All words go
+/// over as they are, header and names too, but for those of the instructions that repeat a
+/// decoration: these are handed back, so that none goes unseen.
+pub fn drop_repeats(words: &[u32]) -> (Vec<u32>, Vec<Vec<u32>>) {
+    const DECORATE: u32 = 71;
+    const MEMBER_DECORATE: u32 = 72;
+    const MODULE_HEADER: usize = 5;
+    let (front, mut rest) = words.split_at(MODULE_HEADER);
+    let (mut kept, mut dropped) = (front.to_vec(), Vec::new());
+    let mut carried = HashSet::new();
+    while !rest.is_empty() {
+        let (opcode, count) = (rest[0] & 0xffff, (rest[0] >> 16) as usize);
+        assert!(count > 0, "the Rust's words are instructions");
+        let (instruction, after) = rest.split_at(count);
+        let first = match opcode {
+            DECORATE => carried.insert((instruction[1], None, instruction[2])),
+            MEMBER_DECORATE => {
+                carried.insert((instruction[1], Some(instruction[2]), instruction[3]))
+            }
+            _ => true,
+        };
+        match first {
+            true => kept.extend(instruction),
+            false => dropped.push(instruction.to_vec()),
+        }
+        rest = after;
+    }
+    (kept, dropped)
+}
+
+/// Whether an instruction puts Block on an id, which is all that the Rust repeats.
+pub fn is_block(instruction: &[u32]) -> bool {
+    const BLOCK: u32 = 2;
+    matches!(*instruction, [first, _, BLOCK] if first == 3 << 16 | 71)
 }
 
 /// A sheet that Check fits, entered in full, for the benchmark to write on its own.

@@ -211,12 +211,31 @@ fn tags_and_bodies(sheet: &[u8]) -> impl Iterator<Item = (u8, &[u8])> {
     })
 }
 
+/// The records of any sheet, up to one that is none.
+fn sound_records(sheet: &[u8]) -> impl Iterator<Item = Record> + '_ {
+    tags_and_bodies(sheet).map_while(|(tag, body)| rank(tag).and_then(|_| decode(tag, body).ok()))
+}
+
 /// Whether a type of any sheet, up to a record that is none, declares a 16-bit float.
 pub fn has_halves(sheet: &[u8]) -> bool {
-    let sound = |(tag, body)| rank(tag).and_then(|_| decode(tag, body).ok());
-    tags_and_bodies(sheet)
-        .map_while(sound)
-        .any(|record| matches!(record, Record::Type(t) if t.inner.is_half()))
+    sound_records(sheet).any(|record| matches!(record, Record::Type(t) if t.inner.is_half()))
+}
+
+/// Whether a global of any sheet, up to a record that is none, is a BindingArray in Storage
+/// space, whose base gets Block.
+pub fn has_bases(sheet: &[u8]) -> bool {
+    let mut types = Vec::new();
+    sound_records(sheet).any(|record| match record {
+        Record::Type(t) => {
+            types.push(t.inner);
+            false
+        }
+        Record::Global(g) => {
+            let inner = types.get(g.ty as usize);
+            g.space == STORAGE && matches!(inner, Some(Inner::BindingArray { .. }))
+        }
+        _ => false,
+    })
 }
 
 /// Whether any sheet, up to a record whose length is none, has a function record, sound or not.

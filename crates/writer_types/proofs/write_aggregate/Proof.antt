@@ -55,11 +55,11 @@ returns-7 : tie.Need-returns-7
 returns-7 c = rw (c .before .before .before .before .before .before .before .before .t .given .1) (c .before .before .before .before .write-array .ensures)
 
 returns-8 : tie.Need-returns-8
-returns-8 c = let a = c .before .before .before .before .before .before .before .before .before .before .before .before .before .before .args in
-    let t = c .before .before .before .before .before .before .before .t2 in
-    let f = c .before .before .before .first-member in
-    let d = c .before .before .write-struct in
-    rw (t .given .1) (struct-written (a .b .now) (f .result) (nameEnd (a .b .now) 0 + 5) (t .given .0 .1 .0) (f .ensures .0) (a .w) (a .tables .now) (a .sections .now) (a .debug) (typesFrom (a .s .now) (a .types .now) (a .n)) (a .id) (d .result) (d .last .1 .0) (d .ensures))
+returns-8 c = let a = c .before .before .before .before .before .before .before .before .before .before .before .before .before .before .before .before .args in
+    let t = c .before .before .before .before .before .before .before .before .before .t2 in
+    let f = c .before .before .before .before .before .first-member in
+    let d = c .before .before .before .before .write-struct in
+    rw (t .given .1) (struct-written (a .b .now) (f .result) (nameEnd (a .b .now) 0 + 5) (t .given .0 .1 .0) (f .ensures .0) (a .w) (a .tables .now) (a .sections .now) (a .debug) (typesFrom (a .s .now) (a .types .now) (a .n)) (a .id) (d .result) (d .last .0) (d .last .1 .0) (d .ensures))
 
 returns-9 : tie.Need-returns-9
 returns-9 c = let a = c .before .before .before .before .before .before .before .args in

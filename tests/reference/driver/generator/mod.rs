@@ -2,6 +2,7 @@
 //! valid sheets, edges, and damaged sheets with the refusal they must get; and words
 //! to list.
 
+mod blocks;
 mod damage;
 mod edges;
 mod families;
@@ -14,6 +15,8 @@ mod valid;
 mod values;
 
 use crate::sheet::*;
+pub use blocks::blocks;
+use blocks::some_blocks;
 pub use damage::{changed, damaged, damaged_as, DAMAGES};
 pub use edges::edges;
 pub use families::families;
@@ -54,7 +57,7 @@ fn domain(sheet: &Sheet) -> Case {
 }
 
 /// How many of document 02's papers there are by now.
-pub const PAPERS: u8 = 4;
+pub const PAPERS: u8 = 5;
 
 /// The generator splitmix64. Beside its state it knows up to which paper of document 02
 /// values and records are drawn, 0 for document 01 alone: what was stored before a paper

@@ -117,6 +117,7 @@ pub fn sweep() -> Vec<(String, Vec<Case>)> {
     references(&mut s);
     functions(&mut s);
     strides(&mut s);
+    blocks(&mut s);
     s.groups.retain(|(_, cases)| !cases.is_empty());
     s.groups
 }
@@ -507,5 +508,116 @@ fn strides(s: &mut Sweep) {
             let [alone, under] = [0, 1].map(|ty| Record::Global(global(ty, UNIFORM, 0)));
             s.sheet(&[matrix(rows, width), array, alone, under], Expect::Domain);
         }
+    }
+}
+
+/// Paper 5: the shortest sheets in which a base gets Block, and would get it again.
+fn blocks(s: &mut Sweep) {
+    let own = |ty, space, access| Record::Global(global(ty, space, access));
+    let stored = |ty| own(ty, STORAGE, 3);
+    let array = |base, size| unnamed(Inner::BindingArray { base, size });
+    let dynamic = || unnamed(Inner::Array { base: 0, size: 0, stride: 4 });
+    let atomic = || unnamed(Inner::Atomic { kind: FLOAT, width: 4 });
+    let holds = |members: &[u16]| unnamed(structure(members));
+    let uint = || unnamed(Inner::Scalar { kind: UINT, width: 4 });
+    s.group("how many Storage globals of one BindingArray".into());
+    for count in 1..=3 {
+        let globals = vec![stored(1); count];
+        s.sheet(&[&[float(), array(0, 0)], &globals[..]].concat(), Expect::Domain);
+    }
+    s.group("accesses of two Storage globals of one BindingArray".into());
+    for (one, other) in [(3, 0), (3, 1), (3, 2), (0, 3), (0, 0), (1, 2)] {
+        let globals = [own(1, STORAGE, one), own(1, STORAGE, other)];
+        s.sheet(&[&[float(), array(0, 0)], &globals[..]].concat(), Expect::Domain);
+    }
+    s.group("spaces of two globals of one BindingArray".into());
+    for one in [UNIFORM, STORAGE, HANDLE, PUSH_CONSTANT] {
+        for other in [UNIFORM, STORAGE, HANDLE, PUSH_CONSTANT] {
+            let globals = [own(1, one, 0), own(1, other, 0)];
+            s.sheet(&[&[float(), array(0, 0)], &globals[..]].concat(), Expect::Domain);
+        }
+    }
+    s.group("Storage globals of two BindingArrays of one base".into());
+    for (one, other) in [(0, 1), (1, 0), (1, 2)] {
+        let types = [float(), array(0, one), array(0, other)];
+        s.sheet(&[&types[..], &[stored(1), stored(2)]].concat(), Expect::Domain);
+        s.sheet(&[&types[..], &[stored(2), stored(1), stored(2)]].concat(), Expect::Domain);
+    }
+    s.group("Storage globals of BindingArrays of two entries, of one id and of two".into());
+    for pair in [[float(), atomic()], [atomic(), float()], [float(), uint()]] {
+        for order in [&[2, 3][..], &[3, 2], &[2, 3, 2]] {
+            let globals: Vec<Record> = order.iter().map(|&ty| stored(ty)).collect();
+            let arrays = [array(0, 0), array(1, 0)];
+            s.sheet(&[&pair[..], &arrays, &globals].concat(), Expect::Domain);
+        }
+    }
+    s.group("Storage globals of a BindingArray of a struct: a float, or a dynamic array".into());
+    for members in [&[][..], &[0], &[1], &[0, 1], &[1, 0], &[0, 1, 0], &[1, 1], &[0, 0, 0]] {
+        let types = [float(), dynamic(), holds(members), array(2, 0)];
+        for count in 1..=2 {
+            let globals = vec![stored(3); count];
+            s.sheet(&[&types[..], &globals].concat(), Expect::Domain);
+        }
+    }
+    s.group("Storage globals of a BindingArray of an array, which has ArrayStride".into());
+    for size in [0, 2] {
+        let types = [float(), unnamed(Inner::Array { base: 0, size, stride: 4 }), array(1, 0)];
+        for count in 1..=2 {
+            let globals = vec![stored(2); count];
+            s.sheet(&[&types[..], &globals].concat(), Expect::Domain);
+        }
+    }
+    s.group("a Storage global of a base itself, before its BindingArray's and behind it".into());
+    for members in [&[0][..], &[1], &[0, 1], &[1, 0]] {
+        let types = [float(), dynamic(), holds(members), array(2, 0)];
+        s.sheet(&[&types[..], &[stored(2), stored(3)]].concat(), Expect::Domain);
+        s.sheet(&[&types[..], &[stored(3), stored(2)]].concat(), Expect::Domain);
+    }
+    s.group("Storage globals of BindingArrays of two bases, a struct each, in turn".into());
+    for members in [&[0][..], &[1]] {
+        let inner = structure(members);
+        let twin = Record::Type(Type { name: Some(Vec::new()), inner: inner.clone() });
+        let types = [float(), dynamic(), unnamed(inner), twin, array(2, 0), array(3, 0)];
+        for order in [&[4, 5][..], &[4, 5, 4], &[4, 5, 5]] {
+            let globals: Vec<Record> = order.iter().map(|&ty| stored(ty)).collect();
+            s.sheet(&[&types[..], &globals].concat(), Expect::Domain);
+        }
+    }
+    s.group("remapped, or bound elsewhere, or unbound, of two Storage globals".into());
+    let placed = |place| match place {
+        None => stored(1),
+        Some(binding) => Record::Global(Global { bound: 1, binding, ..global(1, STORAGE, 3) }),
+    };
+    let remap = Record::Remap { group: 0, binding: 0, size: 7 };
+    for one in [Some(0), Some(1), None] {
+        for other in [Some(0), Some(1), None] {
+            let types = [float(), array(0, 0)];
+            let globals = [placed(one), placed(other)];
+            s.sheet(&[&[remap.clone()], &types[..], &globals].concat(), Expect::Domain);
+        }
+    }
+    s.group("equal names of one id and of two, and of Storage globals".into());
+    let named =
+        |name: &str, inner| Record::Type(Type { name: Some(name.as_bytes().to_vec()), inner });
+    let lane = Global { name: Some(b"lane".to_vec()), ..global(2, STORAGE, 3) };
+    for (kind, name) in [(FLOAT, "lane"), (FLOAT, "belt"), (UINT, "lane")] {
+        let first = named("lane", Inner::Scalar { kind: FLOAT, width: 4 });
+        let second = named(name, Inner::Atomic { kind, width: 4 });
+        for globals in [&[][..], &[2, 2], &[2, 3]] {
+            let arrays = [array(0, 0), array(1, 0)];
+            let named = |&ty: &u16| Record::Global(Global { ty, ..lane.clone() });
+            let globals: Vec<Record> = globals.iter().map(named).collect();
+            let records = [&[first.clone(), second.clone()], &arrays[..], &globals].concat();
+            for flags in [0, DEBUG] {
+                let sheet = Sheet { start: 0, flags, records: records.clone() };
+                s.case(sheet.encode(), Expect::Domain);
+            }
+        }
+    }
+    s.group("start of two Storage globals of one BindingArray".into());
+    for start in [1, 4_194_296, 4_194_297, 4_194_298, u32::MAX] {
+        let records = vec![float(), array(0, 0), stored(1), stored(1)];
+        let sheet = Sheet { start, flags: 0, records };
+        s.case(sheet.encode(), unless(start <= 4_194_297, 15));
     }
 }

@@ -207,8 +207,42 @@ impl Builder<'_> {
         }
     }
 
+    /// Paper 5: what Block comes on. Dynamic arrays, structs that have one, and BindingArrays
+    /// of what another has as its base, by entry or by id.
+    fn inner_of_blocks(&mut self) -> Inner {
+        let Some(mut base) = self.some_type() else { return self.inner() };
+        let (mut arrays, mut bases) = (Vec::new(), Vec::new());
+        for (entry, ty) in self.types.iter().enumerate() {
+            match ty.inner {
+                Inner::Array { size: 0, .. } => arrays.push(entry as u16),
+                Inner::BindingArray { base, .. } => bases.push(base),
+                _ => {}
+            }
+        }
+        match self.random.below(6) {
+            0 => Inner::Array { base, size: 0, stride: self.number() },
+            1 if !arrays.is_empty() => {
+                let mut members = vec![self.random.pick(&arrays)];
+                members.extend((0..self.random.below(3)).filter_map(|_| self.some_type()));
+                self.random.mix(&mut members);
+                let member = |ty| Member { ty, offset: self.number(), name: name(self.random) };
+                Inner::Struct { members: members.into_iter().map(member).collect(), span: 16 }
+            }
+            2..=3 if !bases.is_empty() => {
+                base = self.random.pick(&bases);
+                base = self.of_one_id(base);
+                Inner::BindingArray { base, size: self.number() }
+            }
+            _ => Inner::BindingArray { base, size: self.number() },
+        }
+    }
+
     fn add_type(&mut self) {
-        let ty = Type { inner: self.inner(), name: name(self.random) };
+        let inner = match self.random.papers >= 5 && self.random.chance(1, 4) {
+            true => self.inner_of_blocks(),
+            false => self.inner(),
+        };
+        let ty = Type { inner, name: name(self.random) };
         if self.types.contains(&ty) || !self.add(Record::Type(ty.clone())) {
             return;
         }
@@ -440,8 +474,18 @@ impl Builder<'_> {
     }
 
     fn add_global(&mut self) {
-        let Some(ty) = self.some_type() else { return };
-        let (space, access) = self.random.pick(&SPACES);
+        let Some(mut ty) = self.some_type() else { return };
+        let (mut space, mut access) = self.random.pick(&SPACES);
+        // Paper 5: a BindingArray in Storage space, often.
+        if self.random.papers >= 5 && self.random.chance(1, 3) {
+            let is_array =
+                |&t: &u16| matches!(self.types[t as usize].inner, Inner::BindingArray { .. });
+            let arrays: Vec<u16> = (0..self.types.len() as u16).filter(is_array).collect();
+            if !arrays.is_empty() {
+                (ty, space, access) =
+                    (self.random.pick(&arrays), STORAGE, self.random.below(4) as u8);
+            }
+        }
         let inner = &self.types[ty as usize].inner;
         if space == FUNCTION
             || matches!(inner, Inner::Pointer { .. } | Inner::ValuePointer { .. })
@@ -475,6 +519,9 @@ impl Builder<'_> {
 
 /// A valid sheet, but for capabilities that may be missing.
 pub fn valid(random: &mut Random, aim: Aim) -> Sheet {
+    if random.papers >= 5 && random.chance(1, 6) {
+        return some_blocks(random);
+    }
     let start = match random.below(3) {
         0 => random.below(100_000) as u32,
         _ => 0,

@@ -115,19 +115,75 @@ impl Second {
         }
     }
 
+    /// The base of a global's BindingArray.
+    fn base(&self, g: &Global) -> Option<u16> {
+        match *self.inner(g.ty) {
+            Inner::BindingArray { base, .. } => Some(base),
+            _ => None,
+        }
+    }
+
+    /// Block on the base of a Storage global's BindingArray, unless the base's id carries it.
+    /// Paper 5: "no id carries the same decoration twice", and "the first writing stays".
+    fn block(&mut self, g: &Global, base: u16) {
+        let id = self.entries[base as usize];
+        let is_block = |a: &Instruction| {
+            a.opcode == op::DECORATE && a.operands[..2] == [id, decoration::BLOCK]
+        };
+        let first = self.annotations.iter().position(is_block);
+        if self.has_block(g, base, first.is_some()) {
+            return;
+        }
+        if let (Some(first), true) = (first, self.has(Fault::LaterBlockStays)) {
+            self.annotations.remove(first);
+        }
+        self.decorate(id, decoration::BLOCK, &[]);
+    }
+
+    /// Whether a base, met by this global, is taken to have Block: as it is, but for faults.
+    fn has_block(&self, g: &Global, base: u16, there: bool) -> bool {
+        let id_of = |entry: u16| self.entries[entry as usize];
+        let has_id = |other: &Global| self.base(other).map(id_of) == Some(id_of(base));
+        let in_storage =
+            || self.globals.iter().filter(|o| o.space == STORAGE && self.base(o).is_some());
+        let members = match self.inner(base) {
+            Inner::Struct { members, .. } => &members[..],
+            _ => &[],
+        };
+        let dynamic = |m: &Member| matches!(self.inner(m.ty), Inner::Array { size: 0, .. });
+        let by_members = members.iter().any(dynamic);
+        let by_the_last = members.last().is_some_and(dynamic);
+        match self.fault {
+            Some(Fault::BlockRepeated | Fault::LaterBlockStays) => false,
+            Some(Fault::BlockOnOneBaseAlone) => there || in_storage().next().is_some(),
+            Some(Fault::BlockNotBehindWrapper) => {
+                there || self.globals.iter().any(|o| self.needs_wrapper(o))
+            }
+            Some(Fault::BlockByOtherSpaces) => there || self.globals.iter().any(has_id),
+            Some(Fault::BlockOfMembersRepeated) => in_storage().any(has_id),
+            Some(Fault::BlockOfEarlierMembersRepeated) if by_members => {
+                by_the_last || in_storage().any(has_id)
+            }
+            Some(Fault::BlockOfEachBindingArray) => {
+                by_members || in_storage().any(|o| o.ty == g.ty)
+            }
+            Some(Fault::BlockOfEachEntry) => {
+                by_members || in_storage().any(|o| self.base(o) == Some(base))
+            }
+            Some(Fault::BlockBehindOtherBase) => {
+                by_members || in_storage().last().is_some_and(has_id)
+            }
+            Some(Fault::BlockRepeatedRemapped) => there && self.remapped(g).is_none(),
+            _ => there,
+        }
+    }
+
     fn global_pointer(&mut self, g: &Global, class: u8) -> u64 {
         if self.needs_wrapper(g) {
             return self.wrapper_pointer(g, class);
         }
-        if let (STORAGE, &Inner::BindingArray { base, .. }) = (g.space, self.inner(g.ty)) {
-            let base = self.entries[base as usize];
-            let has_block = self
-                .annotations
-                .iter()
-                .any(|a| a.opcode == op::DECORATE && a.operands == [base, decoration::BLOCK]);
-            if !(has_block && self.has(Fault::BlockOnce)) {
-                self.decorate(base, decoration::BLOCK, &[]);
-            }
+        if let (STORAGE, Some(base)) = (g.space, self.base(g)) {
+            self.block(g, base);
         }
         match (self.remapped(g), self.inner(g.ty)) {
             (Some(size), &Inner::BindingArray { base, .. }) => {

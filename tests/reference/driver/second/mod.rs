@@ -263,6 +263,12 @@ impl Second {
     }
 
     fn decorate_member(&mut self, id: u64, index: usize, decoration: u64, operands: &[u64]) {
+        let of_member = |a: &Instruction| {
+            a.opcode == op::MEMBER_DECORATE && (a.operands[0], a.operands[2]) == (id, decoration)
+        };
+        if self.has(Fault::DecorationOfOtherMember) && self.annotations.iter().any(of_member) {
+            return;
+        }
         let operands = [&[id, index as u64, decoration], operands].concat();
         self.annotations.push(Instruction { opcode: op::MEMBER_DECORATE, operands });
     }
@@ -277,6 +283,10 @@ impl Second {
             return;
         }
         let operands = [at, &self.packed(name)].concat();
+        let equal = |n: &Instruction| n.opcode == opcode && n.operands == operands;
+        if self.has(Fault::EqualNamesDropped) && self.names.iter().any(equal) {
+            return;
+        }
         self.names.push(Instruction { opcode, operands });
     }
 

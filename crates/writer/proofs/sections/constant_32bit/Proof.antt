@@ -16,7 +16,7 @@ returns : tie.Need-returns
 returns c =
     let a = c .before .before .before .before .before .before .before .before .before .before .args in
     let k = one-word (a .ty) (a .id) (a .value) (c .before .before .before .before .before .low-word .ensures) (c .before .before .before .before .low-word2 .ensures) (omega (arith, c .before .before .before .before .before .before .before .before .before .before .fits)) in
-    put-one declarations k (c .before .before .before .before .before .before .before .before .before .before .pre) (c .before .before .before .constant-32bit .ensures)
+    put-one declarations k (c .before .before .before .before .before .before .before .before .before .before .pre) (c .before .before .before .constant-32bit .ensures) tt
 
 pub constant-32bit-spec : {M : Type 1} → statement M
 constant-32bit-spec =

@@ -16,7 +16,7 @@ returns : tie.Need-returns
 returns c =
     let a = c .before .before .before .before .before .before .before .before .before .before .args in
     let k = two-words (a .ty) (a .id) (a .low) (a .high) (c .before .before .before .before .before .low-word .ensures) (c .before .before .before .before .low-word2 .ensures) (omega (arith, c .before .before .before .before .before .before .before .before .before .before .fits)) (omega (arith, c .before .before .before .before .before .before .before .before .before .before .fits)) in
-    put-one declarations k (c .before .before .before .before .before .before .before .before .before .before .pre) (c .before .before .before .constant-64bit .ensures)
+    put-one declarations k (c .before .before .before .before .before .before .before .before .before .before .pre) (c .before .before .before .constant-64bit .ensures) tt
 
 pub constant-64bit-spec : {M : Type 1} → statement M
 constant-64bit-spec =

@@ -16,7 +16,7 @@ returns : tie.Need-returns
 returns c =
     let a = c .before .before .before .before .before .before .before .before .before .before .before .args in
     let k = composite-of (a .ty) (a .id) (a .parts .now) (c .before .before .before .before .before .low-word .ensures) (c .before .before .before .before .low-word2 .ensures) (c .before .before .before .before .before .before .before .before .before .before .before .pre .0) in
-    put-one declarations k (c .before .before .before .before .before .before .before .before .before .before .before .pre .1) (c .before .before .before .constant-composite .ensures)
+    put-one declarations k (c .before .before .before .before .before .before .before .before .before .before .before .pre .1) (c .before .before .before .constant-composite .ensures) tt
 
 pub constant-composite-spec : {M : Type 1} → statement M
 constant-composite-spec =

@@ -16,7 +16,7 @@ returns : tie.Need-returns
 returns c =
     let a = c .before .before .before .before .before .before .before .before .before .before .args in
     let k = is-false (a .ty) (a .id) (c .before .before .before .before .before .low-word .ensures) (c .before .before .before .before .low-word2 .ensures) in
-    put-one declarations k (c .before .before .before .before .before .before .before .before .before .before .pre) (c .before .before .before .constant-false .ensures)
+    put-one declarations k (c .before .before .before .before .before .before .before .before .before .before .pre) (c .before .before .before .constant-false .ensures) tt
 
 pub constant-false-spec : {M : Type 1} → statement M
 constant-false-spec =

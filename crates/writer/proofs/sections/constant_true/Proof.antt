@@ -16,7 +16,7 @@ returns : tie.Need-returns
 returns c =
     let a = c .before .before .before .before .before .before .before .before .before .before .args in
     let k = is-true (a .ty) (a .id) (c .before .before .before .before .before .low-word .ensures) (c .before .before .before .before .low-word2 .ensures) in
-    put-one declarations k (c .before .before .before .before .before .before .before .before .before .before .pre) (c .before .before .before .constant-true .ensures)
+    put-one declarations k (c .before .before .before .before .before .before .before .before .before .before .pre) (c .before .before .before .constant-true .ensures) tt
 
 pub constant-true-spec : {M : Type 1} → statement M
 constant-true-spec =

@@ -16,7 +16,7 @@ returns : tie.Need-returns
 returns c =
     let a = c .before .before .before .before .before .before .before .before .before .before .before .args in
     let k = array (a .id) (a .element) (a .size) (c .before .before .before .before .before .before .low-word .ensures) (c .before .before .before .before .before .low-word2 .ensures) (c .before .before .before .before .low-word3 .ensures) in
-    put-one declarations k (c .before .before .before .before .before .before .before .before .before .before .before .pre) (c .before .before .before .type-array .ensures)
+    put-one declarations k (c .before .before .before .before .before .before .before .before .before .before .before .pre) (c .before .before .before .type-array .ensures) tt
 
 pub type-array-spec : {M : Type 1} → statement M
 type-array-spec =

@@ -18,7 +18,7 @@ returns : tie.Need-returns
 returns c =
     let a = c .before .before .before .before .before .before .before .before .before .before .args in
     let k = type-of OpTypeFunction (lit< tt) (a .id) (a .types .now) (c .before .before .before .before .low-word .ensures) (c .before .before .before .before .before .before .before .before .before .before .pre .0) in
-    put-one declarations k (c .before .before .before .before .before .before .before .before .before .before .pre .1) (c .before .before .before .type-function .ensures)
+    put-one declarations k (c .before .before .before .before .before .before .before .before .before .before .pre .1) (c .before .before .before .type-function .ensures) tt
 
 pub type-function-spec : {M : Type 1} → statement M
 type-function-spec =

@@ -16,7 +16,7 @@ returns : tie.Need-returns
 returns c =
     let a = c .before .before .before .before .before .before .before .before .before .before .args in
     let k = pointer (a .id) (a .class) (a .base) (c .before .before .before .before .before .low-word .ensures) (omega (arith, c .before .before .before .before .before .before .before .before .before .before .fits)) (c .before .before .before .before .low-word2 .ensures) in
-    put-one declarations k (c .before .before .before .before .before .before .before .before .before .before .pre) (c .before .before .before .type-pointer .ensures)
+    put-one declarations k (c .before .before .before .before .before .before .before .before .before .before .pre) (c .before .before .before .type-pointer .ensures) tt
 
 pub type-pointer-spec : {M : Type 1} → statement M
 type-pointer-spec =

@@ -16,7 +16,7 @@ returns : tie.Need-returns
 returns c =
     let a = c .before .before .before .before .before .before .before .before .before .before .args in
     let k = runtime-array (a .id) (a .element) (c .before .before .before .before .before .low-word .ensures) (c .before .before .before .before .low-word2 .ensures) in
-    put-one declarations k (c .before .before .before .before .before .before .before .before .before .before .pre) (c .before .before .before .type-runtime-array .ensures)
+    put-one declarations k (c .before .before .before .before .before .before .before .before .before .before .pre) (c .before .before .before .type-runtime-array .ensures) tt
 
 pub type-runtime-array-spec : {M : Type 1} → statement M
 type-runtime-array-spec =

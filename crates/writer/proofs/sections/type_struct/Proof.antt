@@ -18,7 +18,7 @@ returns : tie.Need-returns
 returns c =
     let a = c .before .before .before .before .before .before .before .before .before .before .args in
     let k = type-of OpTypeStruct (lit< tt) (a .id) (a .members .now) (c .before .before .before .before .low-word .ensures) (c .before .before .before .before .before .before .before .before .before .before .pre .0) in
-    put-one declarations k (c .before .before .before .before .before .before .before .before .before .before .pre .1) (c .before .before .before .type-struct .ensures)
+    put-one declarations k (c .before .before .before .before .before .before .before .before .before .before .pre .1) (c .before .before .before .type-struct .ensures) tt
 
 pub type-struct-spec : {M : Type 1} → statement M
 type-struct-spec =

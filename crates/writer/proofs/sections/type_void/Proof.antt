@@ -10,7 +10,7 @@ add-w : tie.Need-add-w
 add-w c = omega (arith, c .before .before .before .before .before .before .before .before .before .good, c .before .before .before .before .before .before .before .before .before .pre, put-few declarations (void (c .before .before .before .before .before .before .before .before .before .args .id) (c .before .before .before .before .low-word .ensures)) (c .before .before .before .before .before .before .before .before .before .pre) (c .before .before .before .type-void .ensures))
 
 returns : tie.Need-returns
-returns c = put-one declarations (void (c .before .before .before .before .before .before .before .before .before .args .id) (c .before .before .before .before .low-word .ensures)) (c .before .before .before .before .before .before .before .before .before .pre) (c .before .before .before .type-void .ensures)
+returns c = put-one declarations (void (c .before .before .before .before .before .before .before .before .before .args .id) (c .before .before .before .before .low-word .ensures)) (c .before .before .before .before .before .before .before .before .before .pre) (c .before .before .before .type-void .ensures) tt
 
 pub type-void-spec : {M : Type 1} → statement M
 type-void-spec =

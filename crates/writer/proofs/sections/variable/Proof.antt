@@ -16,7 +16,7 @@ returns : tie.Need-returns
 returns c =
     let a = c .before .before .before .before .before .before .before .before .before .before .args in
     let k = variable-of (a .ty) (a .id) (a .class) (a .init) (c .before .before .before .before .before .low-word .ensures) (c .before .before .before .before .low-word2 .ensures) (omega (arith, c .before .before .before .before .before .before .before .before .before .before .fits)) in
-    put-one declarations k (c .before .before .before .before .before .before .before .before .before .before .pre) (c .before .before .before .variable .ensures)
+    put-one declarations k (c .before .before .before .before .before .before .before .before .before .before .pre) (c .before .before .before .variable .ensures) tt
 
 pub variable-spec : {M : Type 1} → statement M
 variable-spec =

@@ -19,8 +19,8 @@ returns c = let a = c .before .before .before .before .before .before .before .b
     cheaper pointerCost (omega arith) (λ s. by-direct (a .form) (a .global) (c .before .before .before .before .before .before .before .before .before .map-storage-class .ensures) s (c .before .before .before .before .before .before .before .enum-told .given .1)) (c .before .before .before .before .get-type-id .ensures)
 
 returns-2 : tie.Need-returns-2
-returns-2 c = let a = c .before .before .before .before .before .before .before .before .before .before .before .args in
-    cheaper pointerCost (omega arith) (λ s. by-wrapper (a .form) (a .global) (c .before .before .before .before .before .before .before .before .map-storage-class .ensures) s (c .before .before .before .before .before .before .form .given .1)) (c .before .before .write-wrapper .ensures)
+returns-2 c = let a = c .before .before .before .before .before .before .before .before .before .before .before .before .before .args in
+    cheaper pointerCost (omega arith) (λ s. by-wrapper (a .form) (a .global) (c .before .before .before .before .before .before .before .before .before .before .map-storage-class .ensures) s (c .before .before .before .before .before .before .before .before .form .given .1)) (c .before .before .before .before .write-wrapper .ensures)
 
 returns-3 : tie.Need-returns-3
 returns-3 c = let a = c .before .before .before .before .before .before .before .before .before .before .before .before .before .args in
