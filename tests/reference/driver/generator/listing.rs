@@ -102,7 +102,8 @@ fn starts(words: &[u32]) -> Vec<usize> {
     let (mut at, mut starts) = (FRONT, Vec::new());
     while at < words.len() {
         starts.push(at);
-        at += (words[at] >> 16) as usize;
+        // No module has a count of 0; words that have one are for others to report.
+        at += ((words[at] >> 16) as usize).max(1);
     }
     starts
 }
