@@ -1,5 +1,7 @@
 // Test 14: whether the capabilities that a type's rules check are available (`require_any` and `request_type_capabilities` of the
 // Rust's `writer.rs`). It is asked of types alone, and needs nothing of the writer's state.
+#![tactic(auto)]
+
 ghost use Rattle.std.specs.Prelude.{◌≡◌, true, false, List, ◌++◌, ℕ};
 ghost use Rattle.std.proofs.Math.Option.{Option, some, none};
 ghost use Rattle.definition.specs.Choice.{among, every};
@@ -21,7 +23,7 @@ use lookup::{
 
 // Whether each capability that a rule checks is available, under the Specification's name. A sheet may ask for one hundreds of
 // times and list thousands, so what it lists is looked through when it is read, and never again.
-#[derive(Drop)]
+#[derive(Clone, Copy)]
 pub struct Available {
     pub image_cube_array: bool,
     pub sampled_1d: bool,

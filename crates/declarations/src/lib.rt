@@ -1,5 +1,7 @@
 // Document 01's three operations, each with its promise (specs/Promise.antt). None asks anything of its caller: sheets and
 // buffers of any length, indexes of any size.
+#![tactic(auto)]
+
 ghost use Rattle.std.specs.Prelude.{◌≡◌, ◌≤◌, length};
 ghost use Rattle.declarations.specs.Promise.{DeclarePromise, CheckPromise, WrappedPromise};
 ghost use Rattle.declarations.specs.Stages.{Lent, Roomed, Ended, Standing, WrappedAs, Answered, verdict_from};
@@ -40,21 +42,21 @@ const TABLE_NUMBERS: usize = 20;
 const SECTION_WORDS: usize = 7;
 
 // What Check answers.
-#[derive(Drop)]
+#[derive(Clone, Copy)]
 pub enum Verdict {
     Fit,
     Refused(u8),
 }
 
 // What Wrapped answers.
-#[derive(Drop)]
+#[derive(Clone, Copy)]
 pub enum Wrapping {
     Wraps(bool),
     Refused(u8),
 }
 
 // What Declare and Wrapped answer, both of one reading of the sheet.
-#[derive(Drop)]
+#[derive(Clone, Copy)]
 struct Answers {
     answer: Answer,
     wrapping: Wrapping,

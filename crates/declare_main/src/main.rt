@@ -1,4 +1,6 @@
 // Reads a sheet on standard input and prints the words of its module, one a line, or the number by which it is refused.
+#![tactic(auto)]
+
 ghost use Rattle.std.specs.Prelude.{◌*◌, ◌≤◌, length};
 ghost use Rattle.module_layout.specs.Finished.{answer_of, declared_as};
 ghost use Rattle.printing.specs.Text.{Printed};

@@ -20,6 +20,7 @@ use Rattle.definition.proofs.Truth.{pick_for}
 -- a number that stands in a list is counted there, and one that is counted in a list of small numbers is small
 counted : (c : ℕ) (cs : List ℕ) → Memᴰ c cs → 1 ≤ occurrences c cs
 unfolding occurrences
+counted c [] m = elim m [ ]
 counted c (x ∷ xs) (Memᴰ.head e) = omega (arith, ap (same c) e, same_itself c)
 counted c (x ∷ xs) (Memᴰ.tail m) = let h = counted c xs m in omega arith
 

@@ -8,7 +8,7 @@ ghost use Rattle.entries.specs.Constants.{ConstantTaken};
 use literals::Literal;
 
 // A Constant is document 01's Alias. Types and constants by their indexes.
-#[derive(Drop)]
+#[derive(Clone, Copy)]
 pub enum Expression {
     Literal(Literal),
     Constant(u16),

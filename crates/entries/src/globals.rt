@@ -7,25 +7,25 @@ ghost use Rattle.entries.specs.Globals.{remap_as, init_constant, Bindings, Globa
 
 use kinds::{AddressSpace, space_of};
 
-#[derive(Drop)]
+#[derive(Clone, Copy)]
 pub struct ResourceBinding {
     pub group: u32,
     pub binding: u32,
 }
 
-#[derive(Drop)]
+#[derive(Clone, Copy)]
 pub enum Binding {
     Unbound,
     Bound(ResourceBinding),
 }
 
-#[derive(Drop)]
+#[derive(Clone, Copy)]
 pub enum Init {
     Missing,
     Constant(u16),
 }
 
-#[derive(Drop)]
+#[derive(Clone, Copy)]
 pub struct GlobalVariable {
     pub space: AddressSpace,
     pub binding: Binding,
@@ -34,7 +34,7 @@ pub struct GlobalVariable {
 }
 
 // Document 01's term: an entry of the Rust's `binding_map`, a `BindingInfo` with its binding.
-#[derive(Drop)]
+#[derive(Clone, Copy)]
 pub struct Remap {
     pub group: u32,
     pub binding: u32,

@@ -4,6 +4,8 @@
 // an access (`StorageAccess`). What has no fixed length stays in the record's body: names, a struct's members, a Compose's parts.
 // A field outside its values, which test 10 refuses, is taken for some value that it may have; so each promise is for
 // fields that pass that test.
+#![tactic(auto)]
+
 pub mod constants;
 pub mod globals;
 pub mod members;

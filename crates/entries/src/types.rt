@@ -8,7 +8,7 @@ use kinds::{
 };
 
 // Widths in bytes; a base is an index within the types; a size of 0 is dynamic or, of a value pointer, none.
-#[derive(Drop)]
+#[derive(Clone, Copy)]
 pub enum TypeInner {
     Scalar {
         kind: ScalarKind,

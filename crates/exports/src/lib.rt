@@ -1,5 +1,7 @@
 // For C and Rust to call: document 01's three operations and paper 3's, their answers as numbers. `include/voulkrod.h` says what each
 // pointer must be; a slice passes as a pointer and a length.
+#![tactic(auto)]
+
 ghost use Rattle.std.specs.Prelude.{◌≡◌};
 ghost use Rattle.module_layout.specs.Finished.{answer_of};
 ghost use Rattle.declarations.specs.Promise.{verdict_as, wrapping_as};

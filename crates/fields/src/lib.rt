@@ -1,6 +1,8 @@
 // Numbers, names and parts of a slice of bytes, wherever they stand; which field stands where is for `sheet_fields` to say.
 // A reader answers for every slice and every place: past the end a byte reads as 0, so that whoever reads owes no proof that a
 // field is there. Only `whole_u32_at` and `whole_u64_at` ask for all their bytes, for loops that know they are there.
+#![tactic(auto)]
+
 mod utf8;
 
 ghost use Rattle.std.specs.Prelude.{◌≡◌, true, ◌+◌, ◌<◌, ◌≤◌, ◌^◌, length, take, drop};

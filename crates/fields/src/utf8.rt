@@ -5,7 +5,7 @@ ghost use Rattle.definition.specs.Utf8.{utf8_char, follow_of, utf8};
 ghost use Rattle.fields.specs.Pending.{ranges_of, next_of, step_of};
 
 // `left` bytes must come, the first of them from low to high, and each other from 0x80 to 0xBF.
-#[derive(Drop)]
+#[derive(Clone, Copy)]
 struct Pending {
     left: u8,
     low: u8,
@@ -13,7 +13,7 @@ struct Pending {
 }
 
 // What a byte leaves to come, or that it cannot stand here.
-#[derive(Drop)]
+#[derive(Clone, Copy)]
 enum Next {
     Wants(Pending),
     Never,

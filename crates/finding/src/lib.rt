@@ -1,6 +1,8 @@
 // Finding a type's id may declare it, and declaring it may find another's: the nesting rank of the shape falls.
 // With them what is found or declared the same way: a literal and a null. Nothing here reads the sheet: an entry is found by its
 // index, and declared by `writer_types` alone.
+#![tactic(auto)]
+
 ghost use Rattle.std.specs.Prelude.{◌≡◌, List, ℕ};
 ghost use Rattle.definition.specs.Choice.{or_else};
 ghost use Rattle.definition.specs.Shapes.{kind_of, scalar, shape};

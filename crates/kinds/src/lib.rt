@@ -1,10 +1,12 @@
 // The cases that document 01 numbers, under the Rust's names (its IR), and how a number is taken for its case. Whether a number
 // is one that document 01 allows is test 10, in `sheet_fields`; here every number is taken for some case.
+#![tactic(auto)]
+
 ghost use Rattle.std.specs.Prelude.{◌≡◌, true, ◌≤◌, ◌<◌};
 ghost use Rattle.definition.specs.Tests.{space_fits, class_fits};
 ghost use Rattle.kinds.specs.Numbers.{kind_number, space_number, space_access, dimension_number, class_number, class_first, class_second};
 
-#[derive(Drop)]
+#[derive(Clone, Copy)]
 pub enum ScalarKind {
     Sint,
     Uint,
@@ -13,7 +15,7 @@ pub enum ScalarKind {
 }
 
 // Only Storage has an access: bit 0 load, bit 1 store.
-#[derive(Drop)]
+#[derive(Clone, Copy)]
 pub enum AddressSpace {
     Function,
     Private,
@@ -24,7 +26,7 @@ pub enum AddressSpace {
     PushConstant,
 }
 
-#[derive(Drop)]
+#[derive(Clone, Copy)]
 pub enum ImageDimension {
     D1,
     D2,
@@ -33,7 +35,7 @@ pub enum ImageDimension {
 }
 
 // The format and the access of a storage image are document 01's numbers; the Rust has an enum and flags for them.
-#[derive(Drop)]
+#[derive(Clone, Copy)]
 pub enum ImageClass {
     Sampled { kind: ScalarKind, multi: bool },
     Depth { multi: bool },

@@ -1,5 +1,7 @@
 // Reads the words of a module on standard input, as `declare_main` prints them or as a binary file has them, and prints their
 // list: the header on one line, then a line for each instruction; or the number by which the words are refused.
+#![tactic(auto)]
+
 ghost use Rattle.std.specs.Prelude.{◌≡◌, ◌+◌, ◌*◌, ◌<◌, ◌≤◌, length, drop};
 ghost use Rattle.std.proofs.lemmas.List.Edits.{sets};
 ghost use Rattle.printing.specs.Text.{Printed};
@@ -35,7 +37,7 @@ const DIGITS: usize = 8;
 const HEADER: usize = 5;
 
 // How many words the input was read as.
-#[derive(Drop)]
+#[derive(Clone, Copy)]
 enum Words {
     Read(usize),
     Unread,

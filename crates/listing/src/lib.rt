@@ -1,6 +1,8 @@
 // Paper 3, "Reading a burnt module back": words listed instruction by instruction into a second buffer. It asks nothing of its
 // caller. The words are walked over twice: first into a buffer in which nothing fits, for the refusal or the list's length, so that a
 // refusal is known before anything is written, then into the caller's. Ids, and what a name says, are not judged.
+#![tactic(auto)]
+
 pub mod forms;
 
 ghost use Rattle.std.specs.Prelude.{◌≡◌, ◌++◌, ◌≤◌, ◌<◌, length, take, drop, get_or};
@@ -16,7 +18,7 @@ use spirv::layout::{MAGIC_NUMBER, VERSION};
 use spirv::words::put_words;
 
 // What List answers: the list's length, or the number of the refusal.
-#[derive(Drop)]
+#[derive(Clone, Copy)]
 pub enum Listing {
     Listed(usize),
     Refused(u8),

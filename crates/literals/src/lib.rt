@@ -1,5 +1,7 @@
 // Literals that keep every bit, and are told apart by form and bits, never as numbers. Reading them from a record is for
 // `entries`, giving them an id for `finding`.
+#![tactic(auto)]
+
 ghost use Rattle.std.specs.Prelude.{◌≡◌, ◌/◌, ◌%◌, get_or};
 ghost use Rattle.std.specs.Float.Ieee.{to_bits};
 ghost use Rattle.std.specs.Float.{binary32, binary64};
@@ -10,7 +12,7 @@ ghost use Rattle.literals.specs.Forms.{literal_of, literal_form, bits_of};
 
 // A float's bits are not always there to be had: from_bits and to_bits are undefined at a NaN, of which the logic knows
 // one without payload. So the pattern of a NaN stands in a case of its own, as a number.
-#[derive(Drop)]
+#[derive(Clone, Copy)]
 pub enum Literal {
     F64(f64),
     F32(f32),

@@ -1,5 +1,7 @@
 // The shape of a type entry: `make_local` and `LocalImageType::from_inner` of the Rust's `mod.rs`, with the conversions that they use.
 // Aggregates have none. No id is given here, and no table looked at.
+#![tactic(auto)]
+
 ghost use Rattle.std.specs.Prelude.{◌≡◌, List, ℕ};
 ghost use Rattle.definition.specs.Shapes.{storage_class, dim_of, image_of, shape_of as defined_shape, count_of as definedCount};
 ghost use Rattle.kinds.specs.Numbers.{flag_number, space_number, dimension_number, class_number, class_first, class_second};
@@ -13,7 +15,7 @@ use lookup::{LocalImageType, LocalType, PointerSpace, VectorSize};
 use spirv::helpers::map_storage_class;
 
 // `Option<LocalType>`: an aggregate is declared under its entry alone.
-#[derive(Drop)]
+#[derive(Clone, Copy)]
 pub enum MaybeLocal {
     Local(LocalType),
     Aggregate,

@@ -3,6 +3,8 @@
 //
 // The Rust keeps a hash table by shape. Here every shape packs into one `u64`, no two into the same (proofs/Injective.antt), so
 // that the table is searched by number. Arms are written out where a `_` would do: each is proved at its own shape.
+#![tactic(auto)]
+
 ghost use Rattle.std.specs.Prelude.{◌≡◌, ◌++◌, ◌<◌};
 ghost use Rattle.definition.specs.Shapes.{kind_of, float, inner, sized, type_of, scalar, entry};
 ghost use Rattle.definition.specs.Finding.{kind_capabilities, format_capabilities, dim_capabilities, capabilities_of};
@@ -21,14 +23,14 @@ use spirv::instructions::{
 
 // `Option<VectorSize>`, the size of a `LocalType::Value`: nothing of a scalar, or that of a vector, as a number. The Rust's Bi, Tri
 // and Quad would not do: a shape is told for every sheet, also where test 10 refuses the size.
-#[derive(Drop)]
+#[derive(Clone, Copy)]
 pub enum VectorSize {
     Nothing,
     Of(u8),
 }
 
 // `Option<spirv::StorageClass>`, where the value that a `LocalType::Value` points to lies; nothing if it is the value itself.
-#[derive(Drop)]
+#[derive(Clone, Copy)]
 pub enum PointerSpace {
     Nothing,
     Of(u8),
@@ -36,7 +38,7 @@ pub enum PointerSpace {
 
 // `LocalImageType`: every operand of OpTypeImage under its own name, where the Rust has four of them as flags. The sampled type
 // is a scalar of this kind and of width 4.
-#[derive(Drop)]
+#[derive(Clone, Copy)]
 pub struct LocalImageType {
     pub kind: ScalarKind,
     pub dim: u8,
@@ -49,7 +51,7 @@ pub struct LocalImageType {
 
 // `LocalType`: the types that must be declared once, or that no entry of the sheet need have. Its `SampledImage` belongs to
 // expressions, which no sheet has. Classes are the Specification's storage classes, bases are indexes of entries.
-#[derive(Drop)]
+#[derive(Clone, Copy)]
 pub enum LocalType {
     Value {
         vector_size: VectorSize,
@@ -82,28 +84,28 @@ pub enum LocalType {
 }
 
 // `LookupType`: an entry of the sheet, or a shape.
-#[derive(Drop)]
+#[derive(Clone, Copy)]
 pub enum LookupType {
     Handle(u16),
     Local(LocalType),
 }
 
 // The type that a shape's instruction names; in the Rust it is found inside `write_type_declaration_local`.
-#[derive(Drop)]
+#[derive(Clone, Copy)]
 pub enum Inner {
     Nothing,
     Of(LookupType),
 }
 
 // The length that a shape's instruction names: only a binding array has one.
-#[derive(Drop)]
+#[derive(Clone, Copy)]
 pub enum Length {
     Nothing,
     Of(u32),
 }
 
 // Capabilities, in order of use. 0 is none: it is Matrix's number, which no rule asks for.
-#[derive(Drop)]
+#[derive(Clone, Copy)]
 pub struct Capabilities {
     pub first: u32,
     pub second: u32,

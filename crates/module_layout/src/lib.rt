@@ -1,6 +1,8 @@
 // The last stage: tests 15 and 16, then from the sections that a writer holds to the module in the caller's buffer.
 // Each section is written into what is left of the buffer, which is lent from the current place on. Nothing is written before
 // both tests are passed, and the sections are taken as they are.
+#![tactic(auto)]
+
 ghost use Rattle.std.specs.Prelude.{◌≡◌, ◌+◌, ◌*◌, ◌≤◌, ◌<◌, length, take, drop};
 ghost use Rattle.definition.specs.Instructions.{all_words};
 ghost use Rattle.definition.specs.State.{capability_instructions};
@@ -13,7 +15,7 @@ use spirv::words::put_words;
 use writer::{ANNOTATIONS, DECLARATIONS, NAMES, Writer};
 
 // What Declare answers: the word count and the bound, or the number of the refusal.
-#[derive(Drop)]
+#[derive(Clone, Copy)]
 pub enum Answer {
     Written(usize, u32),
     Refused(u8),

@@ -1,5 +1,7 @@
 // The text that the programs print: words as lines of hexadecimal digits, a refusal, yes and no. Each function puts its bytes
 // into a text that the caller lends, so that a program writes all of it in one call; only `streams` reads and writes.
+#![tactic(auto)]
+
 pub mod streams;
 
 ghost use Rattle.std.specs.Prelude.{◌≡◌, ◌+◌, ◌*◌, ◌<◌, ◌≤◌, length, take};

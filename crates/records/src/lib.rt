@@ -1,5 +1,7 @@
 // The sheet's frame: its header, the record at a place, the rank of a tag, and how many records of each kind were read.
 // Decides tests 1 to 7 of document 01. A record's body is handed on as that part of the sheet, and not looked into here.
+#![tactic(auto)]
+
 ghost use Rattle.std.specs.Prelude.{◌≡◌, true, false, ◌+◌, ◌<◌, drop};
 ghost use Rattle.definition.specs.Bytes.{u16_at};
 ghost use Rattle.definition.specs.Sheet.{flags_of, options_of, record_at, tag_rank};
@@ -27,7 +29,7 @@ pub const GLOBALS_MOST: usize = 64;
 // how many records there are of each other kind. Where those stand is kept in slices, which the caller lends; but no record names a
 // function, so of those only the number is kept. The numbers are of one width, since a copy of narrower ones with gaps between them
 // takes longer, and a record's turn makes many.
-#[derive(Drop)]
+#[derive(Clone, Copy)]
 pub struct Counts {
     pub rank: usize,
     pub available: usize,
@@ -39,7 +41,7 @@ pub struct Counts {
 }
 
 // What the flags of a sheet ask for: bit 0 debug names, bit 1 native workgroup zeroing.
-#[derive(Drop)]
+#[derive(Clone, Copy)]
 pub struct Options {
     pub debug: bool,
     pub zeroing: bool,

@@ -2,6 +2,8 @@
 // and the references (11), each over the whole record; `sheet` puts tests 5 to 7 before them and 12 behind. There is a test for
 // each kind of record, which finds the end of the name once. No field is kept here: `entries` takes them by value once the tests
 // are passed. What is no tag, which test 5 refuses, has a global's fields, here as in the definition.
+#![tactic(auto)]
+
 mod constants;
 mod functions;
 mod globals;

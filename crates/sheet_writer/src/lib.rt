@@ -1,5 +1,7 @@
 // The records of a sheet, each tested in the state that those before it left and then declared: what all three operations
 // share. It decides refusals in document 01's order: 13 at one record comes before 5 at the next. 15 is left to the operations.
+#![tactic(auto)]
+
 ghost use Rattle.std.specs.Prelude.{◌≡◌, List, map, ℕ, ◌+◌, ◌<◌, ◌≤◌, length, take};
 ghost use Rattle.std.proofs.Math.Option.{Option};
 ghost use Rattle.definition.specs.Sheet.{type_fields, constant_fields};
@@ -35,14 +37,14 @@ use writer_globals::fitness::global_fits;
 use writer_types::write_type_declaration_arena;
 
 // What a record's turn comes to: the number of the first test that fails, or 0 and the writer after its declaration.
-#[derive(Drop)]
+#[derive(Clone, Copy)]
 pub struct RecordOutcome {
     pub refused: u8,
     pub writer: Writer,
 }
 
 // What a sheet comes to, but for its bound: the number of its refusal, or what was read and the writer.
-#[derive(Drop)]
+#[derive(Clone, Copy)]
 pub enum Outcome {
     Refused(u8),
     Fit(Counts, Writer),

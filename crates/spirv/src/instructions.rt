@@ -303,7 +303,7 @@ pub fn constant_composite(sink: &mut [u32], ty: u32, id: u32, parts: &[u64]) -> 
 // ---- variables
 
 // `Option<Word>`: the id that a variable begins with.
-#[derive(Drop)]
+#[derive(Clone, Copy)]
 pub enum Initializer {
     Nothing,
     Id(u64),

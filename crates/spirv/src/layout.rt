@@ -99,7 +99,7 @@ pub fn put_name(sink: &mut [u32], op: u32, operands: &[u32], bytes: &[u8]) -> us
 }
 
 // The module's header; all but the bound is the same in each.
-#[derive(Drop)]
+#[derive(Clone, Copy)]
 pub struct PhysicalLayout {
     pub bound: u32,
 }

@@ -1,5 +1,7 @@
 // What the SPIR-V back end writes with: packed strings, storage classes, the instructions of document 01's rules, ids, and
 // the module's layout. Words go to the front of what is left of a buffer that the caller lends.
+#![tactic(auto)]
+
 pub mod helpers;
 pub mod instructions;
 pub mod layout;
@@ -11,13 +13,13 @@ ghost use Rattle.spirv.specs.Ids.{Next, low};
 
 // Hands out ids. The last id given out is held in 64 bits: a sheet may say that ids up to 2^32 - 1 are given out already, and
 // its records are judged before the bound is, so the count must be able to pass 32 bits and not wrap.
-#[derive(Drop)]
+#[derive(Clone, Copy)]
 pub struct IdGenerator {
     pub last: u64,
 }
 
 // An id, and the generator moved on past it.
-#[derive(Drop)]
+#[derive(Clone, Copy)]
 pub struct NextId {
     pub id: u64,
     pub idgen: IdGenerator,

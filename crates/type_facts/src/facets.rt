@@ -14,7 +14,7 @@ use sheet_fields::values::{float_width, size_fits};
 use spirv::layouter::matrix_stride;
 
 // A type as far as the rules ask of it.
-#[derive(Drop)]
+#[derive(Clone, Copy)]
 pub enum Facet {
     Matrix { rows: u8, width: u8 },
     Array { base: u16, dynamic: bool },

@@ -1,6 +1,8 @@
 // What the rules ask of a type that was read before, read again from the sheet at the type's place; and the remap of a
 // binding. Types and globals ask here alike. Every question has an answer for every sheet: past the types that were read
 // the answer is that of the definition's `no_entry`, so that whoever asks owes no proof that the type is there.
+#![tactic(auto)]
+
 mod facets;
 
 ghost use Rattle.std.specs.Prelude.{◌≡◌, map, ◌+◌, ◌≤◌, length, take};
@@ -18,21 +20,21 @@ use facets::{
 use kinds::AddressSpace;
 
 // A number that may be missing: a column stride, a remap's size.
-#[derive(Drop)]
+#[derive(Clone, Copy)]
 pub enum Number {
     Nothing,
     Of(u32),
 }
 
 // An access that may be missing: bit 0 load, bit 1 store.
-#[derive(Drop)]
+#[derive(Clone, Copy)]
 pub enum Access {
     Nothing,
     Of(u8),
 }
 
 // The index of a type that may be missing: what an array is made of.
-#[derive(Drop)]
+#[derive(Clone, Copy)]
 pub enum Base {
     Nothing,
     Of(u16),

@@ -1,5 +1,7 @@
 // Reads a sheet on standard input and prints, for each of its globals in order, whether it is wrapped in a struct, or the
 // number by which the sheet is refused.
+#![tactic(auto)]
+
 ghost use Rattle.std.specs.Prelude.{◌≤◌, length};
 ghost use Rattle.printing.specs.Text.{Printed};
 ghost use Rattle.wrapped_main.specs.Answers.{answers, answer_to};

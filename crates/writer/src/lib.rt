@@ -1,6 +1,8 @@
 // The writer's tables and sections, in regions of two slices that the caller lends, and how much of each is in use.
 // One function for each thing that the rules do to the definition's State; whatever is above only composes them. No rule
 // stands here: which id, which key and which instruction is for the callers to say.
+#![tactic(auto)]
+
 pub mod sections;
 
 ghost use Rattle.std.specs.Prelude.{◌≡◌, List, [], ◌∷◌, ℕ, ◌+◌, ◌*◌, ◌≤◌, ◌<◌, length};
@@ -43,7 +45,7 @@ pub const ANNOTATIONS: usize = 2;
 pub const DECLARATIONS: usize = 4;
 
 // `records` and `bytes` say how large a sheet there is room for; the other numbers are rows, ids or words in use.
-#[derive(Drop)]
+#[derive(Clone, Copy)]
 pub struct Writer {
     pub records: usize,
     pub bytes: usize,
@@ -62,14 +64,14 @@ pub struct Writer {
 }
 
 // An id, and the writer that holds what it stands for.
-#[derive(Drop)]
+#[derive(Clone, Copy)]
 pub struct Taken {
     pub id: u64,
     pub writer: Writer,
 }
 
 // A constant of the sheet: its id, its type's id, and the code of its kind where a Splat may repeat it, plus 1; 0 where not.
-#[derive(Drop)]
+#[derive(Clone, Copy)]
 pub struct WrittenConstant {
     pub id: u64,
     pub ty: u64,
@@ -77,7 +79,7 @@ pub struct WrittenConstant {
 }
 
 // What a search comes to.
-#[derive(Drop)]
+#[derive(Clone, Copy)]
 pub enum Sought {
     Id(u64),
     Absent,

@@ -1,6 +1,8 @@
 // Function types, of records with tag 48: the Rust's `get_function_type`. Two records with equal return id and equal parameter ids
 // share one id. Void is declared by the first record that returns it. Both stand in the table of composites, under keys that no
 // type has, so that one search serves all that is shared by ids.
+#![tactic(auto)]
+
 ghost use Rattle.std.specs.Prelude.{◌∷◌, ◌+◌, ◌<◌};
 ghost use Rattle.definition.specs.Bytes.{u8_at};
 ghost use Rattle.definition.specs.Instructions.{type_void, type_function};

@@ -1,5 +1,7 @@
 // Globals: test 13 of one, and its declaration: its name and decorations, its pointer, Block on the base, its init, then
 // the variable. Whatever is read of the sheet is read first.
+#![tactic(auto)]
+
 mod decorations;
 pub mod fitness;
 mod pointers;
@@ -29,7 +31,7 @@ use type_facts::{Access, Base};
 use writer::{Writer, sections};
 
 // The id of a global's init, if it has one.
-#[derive(Drop)]
+#[derive(Clone, Copy)]
 pub struct TakenInit {
     pub init: Initializer,
     pub writer: Writer,
@@ -92,7 +94,7 @@ fn write_init(
 // ---- what is read
 
 // What a global's declaration goes by, read of the sheet before anything is written.
-#[derive(Drop)]
+#[derive(Clone, Copy)]
 pub struct Plan {
     pub access: Access,
     pub form: PointerForm,

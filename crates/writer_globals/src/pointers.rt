@@ -18,7 +18,7 @@ use writer::{Taken, Writer, sections};
 use writer_members::decorate_struct_member;
 
 // The form of a global's pointer: to its type, to a wrapper, or to a remapped array.
-#[derive(Drop)]
+#[derive(Clone, Copy)]
 pub enum PointerForm {
     Direct,
     Wrapped { stride: Number },

@@ -1,5 +1,7 @@
 // What a struct's member is decorated with: a member of an entry, and the one member of a global's wrapper. It reads nothing
 // of the sheet.
+#![tactic(auto)]
+
 ghost use Rattle.std.specs.Prelude.{◌<◌, length};
 ghost use Rattle.std.proofs.Math.Option.{some};
 ghost use Rattle.definition.specs.Instructions.{member_name};

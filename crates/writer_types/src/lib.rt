@@ -1,5 +1,7 @@
 // The declaration of a type entry, whole: the Rust's `write_type_declaration_arena`. What it asks of the types before the
 // entry is read again from the sheet.
+#![tactic(auto)]
+
 mod aggregates;
 mod names;
 mod structs;

@@ -2,6 +2,8 @@
 // A recursive walk over the type entries, in which the entry's index falls at each call. The caller lends a memo of a flag
 // for each entry, 0 for not yet known, and `Memo` asks that it has one for each: so an entry is looked into once, however often
 // it is a part. Without its flag the walk could be exponential in how deep the parts go.
+#![tactic(auto)]
+
 ghost use Rattle.std.specs.Prelude.{◌≡◌, ◌+◌, ◌<◌, ◌≤◌, length, set};
 ghost use Rattle.definition.specs.Bytes.{u8_at};
 ghost use Rattle.definition.specs.Zeroable.{zeroable};
