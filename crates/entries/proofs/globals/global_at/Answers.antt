@@ -1,0 +1,6 @@
+-- The body is that of the record at the place.
+use borrow.Author.Rules.{rules}
+use Rattle.entries.proofs.globals.global_at.Goals as goal
+
+pub returns : goal.returns
+returns c = rw (← c.entry_at-rest.ensures, ← c.body_of.ensures) c.global_of.ensures

@@ -1,0 +1,8 @@
+-- Each field by itself.
+use borrow.Author.Rules.{rules}
+use Rattle.definition.specs.Sheet.{type_fields}
+use Rattle.entries.proofs.types.binding_array.Goals as goal
+
+pub returns : goal.returns
+unfolding type_fields
+returns c = λ h. cc

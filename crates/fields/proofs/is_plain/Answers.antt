@@ -1,0 +1,34 @@
+use Prim.Native.Nat.{◌≤◌, ◌-◌}
+use mathlib.Core.Bool.{true, false≢true}
+use mathlib.Core.List.{[]}
+use mathlib.Core.Logic.{⊎_elim}
+use mathlib.Core.Path.{◌≡◌, refl, sym, ◌∙◌}
+use native.Mathlib.Omega.{arith}
+use borrow.Author.Rules.{rules}
+use lib.ListN.{length, get_or, drop}
+use Rattle.definition.specs.Utf8.{octets, utf8, no_zero}
+use Rattle.fields.proofs.Octets.{goes_on, ends, zero_not, zero_end}
+use Rattle.fields.proofs.Rows.{alike}
+use Rattle.fields.proofs.is_plain.Goals as goal
+
+pub loop-i-init : goal.loop-i-init
+unfolding utf8
+loop-i-init c = (search rules, λ e. (refl, refl))
+
+pub loop-i-preserved : goal.loop-i-preserved
+loop-i-preserved c =
+    let s = c.args.s.now in 
+    let l = c.loop-i in 
+    let h = c.loop-i-test.true in (
+      search rules,
+      ⊎_elim (λ v e. absurd (false≢true (sym v.1 ∙ e))) (λ v. ⊎_elim (λ w e. absurd (false≢true (sym w.1 ∙ sym v.1 ∙ e)))
+          (λ w e. let p = l.invariant.1 (sym w.1 ∙ sym v.1 ∙ e) in (p.0 ∙ goes_on s l.i [] h [] (alike 0x00 0x7F (get_or s l.i 0) tt (omega arith) v.0.left), p.1 ∙ zero_not s l.i h w.0.left))
+          c.if-b-eq0.branch) c.if-b-gt127.branch,
+    )
+
+pub returns : goal.returns
+returns c = λ e.
+    let s = c.args.s.now in 
+    let l = c.loop-i in 
+    let p = l.invariant.1 e in
+    (p.0 ∙ ends s l.i 0 0 0 c.loop-i-test.false, p.1 ∙ zero_end s l.i c.loop-i-test.false)

@@ -1,0 +1,40 @@
+-- `fields::name_fits`: where the length byte is not 255 the part that was taken is the definition's name; a plain one passes the
+-- definition's two tests, and of another the code's two tests are those.
+use Prim.Native.Nat.{ℕ, ◌+◌}
+use mathlib.Core.Path.{◌≡◌, ap, sym, ◌∙◌}
+use mathlib.Core.Bool.{Bool, true, ◌&&◌}
+use mathlib.Core.List.{List}
+use lib.ListN.{take, drop}
+use borrow.Author.Tests.{eq-eqb, ne_eqb}
+use borrow.Author.Rules.{rules}
+use Rattle.definition.specs.Bytes.{u8_at, name_at}
+use Rattle.definition.specs.Utf8.{utf8, no_zero, name_fits}
+use Rattle.fields.proofs.name_fits.Goals as goal
+
+-- a name that is not none, of n bytes: t says whether it is UTF-8, and u whether no byte of it is 0
+judged : (s : List ℕ) (i n : ℕ) (name : List ℕ) (t u : Bool) → n ≡ u8_at s i → (n ≡ 255 → ⊥)
+    → name ≡ take n (drop (i + 1) s) → t ≡ utf8 name → u ≡ no_zero name → (t && u) ≡ name_fits (name_at s i)
+unfolding name_at
+unfolding name_at
+judged s i n name t u e f g p q = simp (← e, ne_eqb n 255 f, ← g, ← p, ← q)
+
+-- what the two tests say together, from where both are made
+both : (c : tie.After-no-zero) → (c.before.is-utf8.result && c.no_zero.result) ≡ name_fits (name_at c.before.before.before.before.before.before.before.before.args.s.now c.before.before.before.before.before.before.before.before.args.i)
+both c = judged _ _ _ _ _ _ c.before.before.before.before.before.before.u8-at.ensures c.before.before.before.before.before.if1.false c.before.before.before.before.part.ensures c.before.is-utf8.ensures c.no_zero.ensures
+
+pub returns-then-n : goal.returns-then-n
+unfolding name_at
+returns-then-n c = simp (← c.u8_at-n.ensures, eq-eqb _ _ c.if-n.true)
+
+-- a plain name passes both tests
+pub returns-then-is_plain : goal.returns-then-is_plain
+returns-then-is_plain c =
+    let a = c.args in 
+    let passes = c.is_plain.ensures c.if-is_plain.true in
+    judged a.s.now a.i c.u8_at-n.result c.part-name.result.now true true c.u8_at-n.ensures c.if-n.false c.part-name.ensures (sym passes.0) (sym passes.1)
+
+pub returns-then-text : goal.returns-then-text
+returns-then-text c = ap (λ (t : Bool). t && c.no_zero-clean.result) (sym c.if-text.true) ∙ both c
+
+pub returns-else-text : goal.returns-else-text
+returns-else-text c = c.if-text.false ∙ ap (λ (t : Bool). t && c.no_zero-clean.result) (sym c.if-text.false) ∙ both c

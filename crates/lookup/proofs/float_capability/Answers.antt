@@ -1,0 +1,13 @@
+-- An arm for each width: with its number put in, the definition's choice computes to that arm.
+use mathlib.Core.Path.{refl}
+use borrow.Author.Tests.{ne_eqb}
+use Rattle.lookup.proofs.float_capability.Goals as goal
+
+pub returns-in-2 : goal.returns-in-2
+returns-in-2 c = simp c.in-2.is refl
+
+pub returns-in-8 : goal.returns-in-8
+returns-in-8 c = simp c.in-8.is refl
+
+pub returns-in_default : goal.returns-in_default
+returns-in_default c = simp (ne_eqb _ _ c.in_default.not-2, ne_eqb _ _ c.in_default.not-8) refl

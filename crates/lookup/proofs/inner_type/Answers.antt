@@ -1,0 +1,45 @@
+-- `inner_of` meets its contract. Each arm is told its shape (`enum_told`, and `enum_known` where the arm reads a field of it); with
+-- that put in, `inner` computes to the arm's answer. A value pointer keeps its size, so there `pointed` says that the value without
+-- its class is the shape pointed to, whatever the size.
+use mathlib.Core.Path.{ap}
+use mathlib.Core.Option.{some}
+use borrow.Author.Rules.{rules}
+use Rattle.definition.specs.Shapes.{Shape, shape, kind_of}
+use Rattle.kinds.specs.Numbers.{kind_number}
+use Rattle.lookup.proofs.Values.{pointed}
+use Rattle.lookup.proofs.inner_type.Goals as goal
+
+pub returns-in-Nothing-size : goal.returns-in-Nothing-size
+returns-in-Nothing-size c = rw (c.in-Value.is, c.in-Nothing.is, c.in-Nothing-size.is)
+
+pub returns-in-Of-size : goal.returns-in-Of-size
+returns-in-Of-size c = rw (c.in-Value.is, c.in-Nothing.is, c.in-Of-size.is)
+
+pub returns-in-Of : goal.returns-in-Of
+returns-in-Of c = let g = c.in-Value.given.0 in 
+    rw (c.in-Value.is, c.in-Of.is) (ap (λ (z : Shape). some (shape z)) (pointed g.0 (kind_of (kind_number g.1.0) g.1.1.0)))
+
+pub returns-in-Matrix : goal.returns-in-Matrix
+unfolding kind_of
+returns-in-Matrix c = rw c.in-Matrix.is
+
+pub returns-in-Pointer : goal.returns-in-Pointer
+returns-in-Pointer c = rw c.in-Pointer.is
+
+pub returns-in-Image : goal.returns-in-Image
+returns-in-Image c = rw c.in-Image.is
+
+pub returns-in-Sampler : goal.returns-in-Sampler
+returns-in-Sampler c = rw c.in-Sampler.is
+
+pub returns-in-PointerToBindingArray : goal.returns-in-PointerToBindingArray
+returns-in-PointerToBindingArray c = rw c.in-PointerToBindingArray.is
+
+pub returns-in-BindingArray : goal.returns-in-BindingArray
+returns-in-BindingArray c = rw c.in-BindingArray.is
+
+pub returns-in-AccelerationStructure : goal.returns-in-AccelerationStructure
+returns-in-AccelerationStructure c = rw c.in-AccelerationStructure.is
+
+pub returns-in-RayQuery : goal.returns-in-RayQuery
+returns-in-RayQuery c = rw c.in-RayQuery.is

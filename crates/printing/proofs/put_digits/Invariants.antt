@@ -1,0 +1,19 @@
+-- `put_digits`. The invariant: with the digits of the rest put as well, the text is what it is to be in the end (`one_digit` is a
+-- turn). The measure is how many digits are left.
+use Prim.Native.Nat.{ℕ, suc, ◌+◌, ◌/◌, ◌-◌, ◌≤◌}
+use mathlib.Core.Path.{◌≡◌, ap, ◌∙◌}
+use native.Mathlib.Nat.{mod-lt}
+use native.Mathlib.Omega.{arith}
+use lib.ListN.{set, length-set, length}
+use lib.Seq.{sets}
+use borrow.Author.Rules.{rules}
+use Rattle.printing.proofs.Lines.{one_digit}
+use Rattle.printing.specs.Text.{digits}
+use Rattle.printing.proofs.put_digits.Given as goal
+
+abbrev pub invariant-loop-left : goal.invariant-loop-left
+invariant-loop-left l =
+    (l.left ≤ l.k) × (length l.text ≡ length l.initial.text) × (sets l.text l.at (digits l.base l.left l.rest) ≡ sets l.initial.text l.at (digits l.base l.k l.n))
+
+abbrev pub decreases-loop-left : goal.decreases-loop-left
+decreases-loop-left l = l.left

@@ -1,0 +1,8 @@
+-- The tag is the byte behind the length.
+use borrow.Author.Rules.{rules}
+use Rattle.definition.specs.Sheet.{record_at}
+use Rattle.records.proofs.tag_of.Goals as goal
+
+pub returns : goal.returns
+unfolding record_at
+returns c = c.u8_at.ensures

@@ -1,0 +1,22 @@
+-- The invariant (`Holds`): some state is held, and the rest of the sheet, from here, comes to what the whole comes to; the measure is
+-- what is left of the sheet. Each way out and the turn is one law of Loop, to whose form what the callees ensure is brought.
+use Rattle.sheet_writer.proofs.Loop.{Holds, begins, fits, four, ready, refuses, passed, turns}
+use Rattle.sheet_writer.specs.Turning.{RecordWritten}
+use Rattle.definition.specs.Sheet.{record_at, Options}
+use Rattle.sheet.specs.Hash.{HashFor}
+use Rattle.records.proofs.Loop.{judge_stop}
+use Rattle.records.specs.Places.{places_of}
+use lib.ListN.{length}
+use Prim.Native.Nat.{ℕ, ◌-◌}
+use native.Mathlib.Omega.{arith}
+use mathlib.Core.Path.{sym, ◌∙◌, subst}
+use mathlib.Core.List.{List}
+use borrow.Author.Rules.{rules}
+use Rattle.sheet_writer.proofs.write_sheet.Given as goal
+
+abbrev pub invariant-loop-at : goal.invariant-loop-at
+invariant-loop-at l =
+    Holds l.sheet l.initial.tables l.initial.sections l.initial.memo (places_of l.initial.remaps l.initial.types l.initial.constants l.initial.globals) l.nrecords l.nbytes l.tables l.sections l.memo (places_of l.remaps l.types l.constants l.globals) l.at l.k l.available l.w
+
+abbrev pub decreases-loop-at : goal.decreases-loop-at
+decreases-loop-at l = length l.sheet - l.at

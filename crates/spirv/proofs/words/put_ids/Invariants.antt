@@ -1,0 +1,17 @@
+-- As `put_words`, each id taken as a word on its way.
+use Prim.Native.Nat.{◌-◌, ◌≤◌}
+use mathlib.Core.List.{map}
+use mathlib.Core.Path.{◌≡◌, refl, sym, ◌∙◌}
+use native.Mathlib.Omega.{arith}
+use lib.ListN.{length}
+use borrow.Author.Rules.{rules}
+use Rattle.spirv.specs.Ids.{low}
+use Rattle.spirv.proofs.Ids.{low-length, low_at}
+use Rattle.spirv.proofs.Puts.{nothing, laid, laid-length, laid_more, laid_all}
+use Rattle.spirv.proofs.words.put_ids.Given as goal
+
+abbrev pub invariant-loop-i : goal.invariant-loop-i
+invariant-loop-i l = (l.i ≤ l.n) × (l.sink ≡ laid l.i (map low l.ids) l.initial.sink)
+
+abbrev pub decreases-loop-i : goal.decreases-loop-i
+decreases-loop-i l = l.n - l.i

@@ -1,0 +1,54 @@
+-- An arm for each tag: with its number put in, the definition's choice computes to that arm, of the bytes that were read.
+-- Where no tag fits, all of its tests fail, and a BindingArray is left. All else that is asked here is that a field's place
+-- fits a usize, which is so because a name ends within the first 256 bytes.
+use borrow.Author.Tests.{ne_eqb}
+use borrow.Author.Rules.{rules}
+use Rattle.definition.specs.Sheet.{type_fields}
+use Rattle.type_facts.proofs.facets.facet_of.Goals as goal
+
+pub returns-in-16 : goal.returns-in-16
+returns-in-16 c = simp c.in-16.is
+
+pub returns-in-17 : goal.returns-in-17
+returns-in-17 c = simp c.in-17.is
+
+pub returns-in-18 : goal.returns-in-18
+unfolding type_fields
+returns-in-18 c = simp (c.in-18.is, c.u8_at.ensures, c.u8_at-in-18.ensures, c.name_end-at.ensures.value)
+
+pub returns-in-19 : goal.returns-in-19
+returns-in-19 c = simp c.in-19.is
+
+pub returns-in-20 : goal.returns-in-20
+returns-in-20 c = simp c.in-20.is
+
+pub returns-in-21 : goal.returns-in-21
+returns-in-21 c = simp c.in-21.is
+
+pub returns-in-22 : goal.returns-in-22
+unfolding type_fields
+returns-in-22 c = simp (c.in-22.is, c.u16_at.ensures, c.u32_at.ensures, c.name_end-at.ensures.value)
+
+pub returns-in-23 : goal.returns-in-23
+returns-in-23 c = simp c.in-23.is
+
+pub returns-in-24 : goal.returns-in-24
+unfolding type_fields
+returns-in-24 c = simp (c.in-24.is, c.image_facet.ensures, c.u8_at-in-24.ensures, c.u8_at-in-24-2.ensures, c.name_end-at.ensures.value)
+
+pub returns-in-25 : goal.returns-in-25
+returns-in-25 c = simp c.in-25.is
+
+pub returns-in-26 : goal.returns-in-26
+returns-in-26 c = simp c.in-26.is
+
+pub returns-in-27 : goal.returns-in-27
+returns-in-27 c = simp c.in-27.is
+
+pub returns-in-28 : goal.returns-in-28
+unfolding type_fields
+returns-in-28 c = simp (c.in-28.is, c.u16_at-in-28.ensures, c.name_end-at.ensures.value)
+
+pub returns-in_default : goal.returns-in_default
+unfolding type_fields
+returns-in_default c = simp (ne_eqb _ _ c.in_default.not-16, ne_eqb _ _ c.in_default.not-17, ne_eqb _ _ c.in_default.not-18, ne_eqb _ _ c.in_default.not-19, ne_eqb _ _ c.in_default.not-20, ne_eqb _ _ c.in_default.not-21, ne_eqb _ _ c.in_default.not-22, ne_eqb _ _ c.in_default.not-23, ne_eqb _ _ c.in_default.not-24, ne_eqb _ _ c.in_default.not-25, ne_eqb _ _ c.in_default.not-26, ne_eqb _ _ c.in_default.not-27, c.u16_at-in_default.ensures, c.name_end-at.ensures.value)

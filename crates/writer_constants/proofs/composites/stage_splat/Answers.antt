@@ -1,0 +1,29 @@
+use Prim.Native.Nat.{ℕ, ◌+◌, ◌-◌, ◌≤◌}
+use mathlib.Core.Path.{◌≡◌, refl, ap, ◌∙◌}
+use mathlib.Core.List.{List, [], ◌∷◌}
+use native.Mathlib.Omega.{arith}
+use lib.ListN.{length, replicate}
+use borrow.Author.Rules.{rules}
+use Rattle.spirv.specs.Sections.{splice}
+use Rattle.spirv.proofs.Splices.{splice-length, splice_none}
+use Rattle.writer.proofs.Staged.{waiting, staged}
+use Rattle.writer_constants.proofs.Staging.{same_length as count, splat_more}
+use Rattle.writer_constants.proofs.composites.stage_splat.Goals as goal
+
+pub loop-k-init : goal.loop-k-init
+loop-k-init c = let a = c.args in (omega arith, refl, splice_none a.tables.now (waiting a.w))
+
+pub loop-k-preserved : goal.loop-k-preserved
+loop-k-preserved c =
+    let a = c.args in 
+    let l = c.loop-k in 
+    let p = c.stage_part in (
+      omega arith,
+      ap length p.ensures ∙ splice-length l.tables (waiting a.w + l.k) (a.id ∷ []) (omega arith) ∙ l.invariant.1,
+      p.ensures ∙ ap (λ (z : List ℕ). splice z (waiting a.w + l.k) (a.id ∷ [])) l.invariant.2 ∙ splat_more a.tables.now (waiting a.w) a.id l.k (waiting a.w + l.k) refl (omega arith),
+    )
+
+pub returns : goal.returns
+returns c = let a = c.args in let l = c.loop-k in let e : l.k ≡ a.n = omega arith in
+    staged a.w a.tables.now (replicate a.n a.id) a.n (count a.n a.id) c.requires (λ s. replicate a.n a.id) (λ S s h. refl)
+    l.tables (l.invariant.2 ∙ ap (λ (j : ℕ). splice a.tables.now (waiting a.w) (replicate j a.id)) e)

@@ -1,0 +1,6 @@
+-- Each part of the plan is what its reader promises.
+use borrow.Author.Rules.{rules}
+use Rattle.writer_globals.proofs.plan_of.Goals as goal
+
+pub returns : goal.returns
+returns c = λ b. record { access = c.access_of-access.ensures b; form = c.pointer_form_of-form.ensures b; base = c.binding_base-base.ensures; null = c.gets_null-null.ensures }

@@ -1,0 +1,9 @@
+-- A flag for each answer.
+use borrow.Author.Rules.{rules}
+use Rattle.zeroable.proofs.keep.Goals as goal
+
+pub returns-then-z : goal.returns-then-z
+returns-then-z c = simp c.if-z.true
+
+pub returns-else-z : goal.returns-else-z
+returns-else-z c = simp c.if-z.false
