@@ -9,8 +9,6 @@ use mathlib.Core.List.{List, [], ◌∷◌, ◌++◌}
 use mathlib.Core.Option.{Option, some}
 use native.Mathlib.Omega.{arith}
 use borrow.Author.Tests.{eq-eqb, ne_eqb}
-use denote.Enum.Declared.{tag_of}
-use types.Run.{OneOf, miss}
 use lib.Dec.{eqb}
 use lib.ListN.{length}
 use Rattle.definition.specs.Choice.{pick, among, every}
@@ -20,7 +18,7 @@ use Rattle.definition.specs.Sheet.{Record, Fields, Entry, TypeInner, u32s_at, ta
 use Rattle.definition.specs.Tests.{Seen, add, add_record}
 use Rattle.definition.specs.Shapes.{Kind, Shape, scalar, vector, matrix, pointer, value_pointer, image, sampler, acceleration_structure, ray_query, binding_array, binding_pointer}
 use Rattle.definition.specs.Shapes.{shape_of as defined_shape}
-use Rattle.definition.specs.Finding.{extended_formats, format_capabilities, dim_capabilities, capabilities_of}
+use Rattle.definition.specs.Finding.{extended_formats, format_capabilities, dim_capabilities}
 use Rattle.definition.specs.Unfit.{checked_capabilities, is_available, shape_available}
 use Rattle.definition.proofs.Truth.{pick_for}
 use Rattle.records.proofs.Chain.{every_both}
@@ -28,11 +26,8 @@ use Rattle.lookup.specs.declared.VectorSize.{VectorSize}
 use Rattle.lookup.specs.declared.VectorSize.TheVariants.{Nothing as One, Of as Many}
 use Rattle.lookup.specs.declared.PointerSpace.{PointerSpace}
 use Rattle.lookup.specs.declared.PointerSpace.TheVariants.{Nothing as Nowhere, Of as Class}
-use Rattle.lookup.specs.declared.LocalType.{LocalType}
-use Rattle.lookup.specs.declared.LocalType.TheVariants.{Value, Matrix, Pointer, Image, Sampler, PointerToBindingArray, BindingArray, AccelerationStructure, RayQuery}
 use Rattle.lookup.specs.declared.Capabilities.{Capabilities}
-use Rattle.lookup.specs.Local.{value_of, local_shape, as_list}
-use Rattle.lookup.specs.contracts.LocalType.{the_type}
+use Rattle.lookup.specs.Local.{value_of, as_list}
 use Rattle.availability.specs.declared.Available.{Available}
 use Rattle.availability.specs.Flags.{Flagged, flag_of}
 
@@ -108,22 +103,6 @@ pub of_value : (z : VectorSize) (k : Kind) (c : PointerSpace) → [] ≡ checked
 of_value One k Nowhere = refl
 of_value (Many n) k Nowhere = refl
 of_value z k (Class c) = refl
-
--- the numbers of the variants behind the first, which is Value
-abbrev pub others : List ℕ
-others = 1 ∷ 2 ∷ 3 ∷ 4 ∷ 5 ∷ 6 ∷ 7 ∷ 8 ∷ []
-
--- all is asked that any other shape uses
-pub of_other : (l : LocalType) → OneOf others (tag_of the_type l) → capabilities_of (local_shape l) ≡ checked_capabilities (local_shape l)
-of_other (Value z k w c) h = absurd (miss others 0 tt h)
-of_other (Matrix c r w) h = refl
-of_other (Pointer b c) h = refl
-of_other (Image i) h = refl
-of_other Sampler h = refl
-of_other (PointerToBindingArray b n s) h = refl
-of_other (BindingArray b n) h = refl
-of_other AccelerationStructure h = refl
-of_other RayQuery h = refl
 
 -- ---- the flags answer as the definition does
 

@@ -12,7 +12,6 @@ use Rattle.definition.specs.Numbers.{DecorationOffset}
 use Rattle.definition.specs.Sheet.{Member, TypeEntry}
 use Rattle.definition.specs.Shapes.{Key, same_key, entry}
 use Rattle.definition.specs.State.{State, Got, lookup, id_of, annotate, declare_alone}
-use Rattle.definition.specs.Finding.{find}
 use Rattle.definition.specs.Rules.{GotAll, declare_members, declare_struct, decorate_member, stride_member, label_if, matrix_stride, element_of, inner_at, any_dynamic, annotate_if, block}
 use Rattle.finding.proofs.Entries.{entry_found}
 use Rattle.writer_types.specs.Members.{decorated, ids_in, struct_put}

@@ -2,9 +2,9 @@
 -- leaves it (`keeps`).
 use mathlib.Core.List.{List}
 use mathlib.Core.Option.{Option, some}
-use mathlib.Core.Path.{sym, ap, ◌∙◌, subst}
+use native.Mathlib.Omega.{arith}
+use mathlib.Core.Path.{◌≡◌, sym, ap, ◌∙◌, subst}
 use Prim.Native.Nat.{ℕ}
-use borrow.Author.Rules.{rules}
 use Rattle.definition.specs.Sheet.{record_at, tag_rank, available_fields}
 use Rattle.availability.specs.Flags.{Flagged}
 use Rattle.availability.proofs.Laws.{lists, keeps}
@@ -21,4 +21,4 @@ pub returns-in_default : goal.returns-in_default
 returns-in_default c = λ n h.
     let a = c.args in 
     let q = c.rank_of.ensures ∙ ap tag_rank c.tag_of.ensures in
-    subst (λ (o : Option (List ℕ)). Flagged o a.a) (sym (keeps n (record_at a.rest.now) (λ e. c.in_default.not-1 (q ∙ e)))) h
+    subst (λ (o : Option (List ℕ)). Flagged o a.a) (sym (keeps n (record_at a.rest.now) (λ e. let f : c.rank_of.result ≡ 1 → ⊥ = omega arith in f (q ∙ e)))) h

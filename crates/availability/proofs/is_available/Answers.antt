@@ -1,4 +1,5 @@
 -- Each arm is told which number it is; the last, that it is none of them.
+use native.Mathlib.Omega.{arith}
 use borrow.Author.Tests.{ne_eqb}
 use Rattle.availability.proofs.is_available.Goals as goal
 
@@ -22,4 +23,4 @@ returns-in-4472 c = rw c.in-4472.is
 
 pub returns-in_default : goal.returns-in_default
 returns-in_default c = 
-    rw (ne_eqb _ _ c.in_default.not-34, ne_eqb _ _ c.in_default.not-43, ne_eqb _ _ c.in_default.not-44, ne_eqb _ _ c.in_default.not-45, ne_eqb _ _ c.in_default.not-49, ne_eqb _ _ c.in_default.not-4472)
+    rw (ne_eqb c.args.cap 34 (omega arith), ne_eqb c.args.cap 43 (omega arith), ne_eqb c.args.cap 44 (omega arith), ne_eqb c.args.cap 45 (omega arith), ne_eqb c.args.cap 49 (omega arith), ne_eqb c.args.cap 4472 (omega arith))

@@ -1,7 +1,6 @@
 use mathlib.Core.Path.{◌∙◌, sym, refl}
 use native.Mathlib.Omega.{arith}
-use borrow.Author.Rules.{rules}
-use Rattle.availability.proofs.Laws.{Going, starts, found, turn, ended}
+use Rattle.availability.proofs.Laws.{starts, found, turn, ended}
 use Rattle.availability.proofs.lists_capability.Goals as goal
 
 pub loop-left-init : goal.loop-left-init

@@ -1,8 +1,5 @@
 -- The numbers that are left answer as all do; each way out, and each turn, is a law of `Laws`.
-use mathlib.Core.Path.{◌∙◌, sym, refl}
-use native.Mathlib.Omega.{arith}
-use borrow.Author.Rules.{rules}
-use Rattle.availability.proofs.Laws.{Going, starts, found, turn, ended}
+use Rattle.availability.proofs.Laws.{Going}
 use Rattle.availability.proofs.lists_capability.Given as goal
 
 abbrev pub invariant-loop-left : goal.invariant-loop-left

@@ -1,7 +1,6 @@
 -- The two capabilities are asked in turn, as the list of both is.
 use mathlib.Core.Path.{sym, ◌∙◌}
 use mathlib.Core.Bool.{true, false}
-use borrow.Author.Rules.{rules}
 use borrow.Author.Tests.{not-true, not-false}
 use Rattle.availability.proofs.Laws.{in_turn}
 use Rattle.availability.proofs.shape_available.Goals as goal

@@ -1,6 +1,5 @@
 -- The shape made is the definition's, what is asked of it is asked of that, and the flags answer as the definition does.
 use mathlib.Core.Path.{◌∙◌}
-use borrow.Author.Rules.{rules}
 use Rattle.lookup.specs.Local.{local_shape}
 use Rattle.availability.proofs.Laws.{as_flagged}
 use Rattle.availability.proofs.type_available.Goals as goal

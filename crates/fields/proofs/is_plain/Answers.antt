@@ -1,7 +1,6 @@
 use Prim.Native.Nat.{◌≤◌, ◌-◌}
 use mathlib.Core.Bool.{true, false≢true}
 use mathlib.Core.List.{[]}
-use mathlib.Core.Logic.{⊎_elim}
 use mathlib.Core.Path.{◌≡◌, refl, sym, ◌∙◌}
 use native.Mathlib.Omega.{arith}
 use borrow.Author.Rules.{rules}
@@ -10,6 +9,7 @@ use Rattle.definition.specs.Utf8.{octets, utf8, no_zero}
 use Rattle.fields.proofs.Octets.{goes_on, ends, zero_not, zero_end}
 use Rattle.fields.proofs.Rows.{alike}
 use Rattle.fields.proofs.is_plain.Goals as goal
+use Rattle.fields.proofs.is_plain.Goals.{then-b-gt127, else-b-gt127, then-b-eq0, else-b-eq0}
 
 pub loop-i-init : goal.loop-i-init
 unfolding utf8
@@ -17,13 +17,19 @@ loop-i-init c = (search rules, λ e. (refl, refl))
 
 pub loop-i-preserved : goal.loop-i-preserved
 loop-i-preserved c =
-    let s = c.args.s.now in 
-    let l = c.loop-i in 
+    let s = c.args.s.now in
+    let l = c.loop-i in
     let h = c.loop-i-test.true in (
       search rules,
-      ⊎_elim (λ v e. absurd (false≢true (sym v.1 ∙ e))) (λ v. ⊎_elim (λ w e. absurd (false≢true (sym w.1 ∙ sym v.1 ∙ e)))
-          (λ w e. let p = l.invariant.1 (sym w.1 ∙ sym v.1 ∙ e) in (p.0 ∙ goes_on s l.i [] h [] (alike 0x00 0x7F (get_or s l.i 0) tt (omega arith) v.0.left), p.1 ∙ zero_not s l.i h w.0.left))
-          c.if-b-eq0.branch) c.if-b-gt127.branch,
+      elim c.if-b-gt127.branch [
+        then-b-gt127 v ↦ λ e. absurd (false≢true (sym v.plain-is ∙ e))
+      | else-b-gt127 v ↦ elim c.if-b-eq0.branch [
+          then-b-eq0 w ↦ λ e. absurd (false≢true (sym w.plain-is ∙ sym v.plain-is ∙ e))
+        | else-b-eq0 w ↦ λ e.
+            let p = l.invariant.1 (sym w.plain-is ∙ sym v.plain-is ∙ e) in
+            (p.0 ∙ goes_on s l.i [] h [] (alike 0x00 0x7F (get_or s l.i 0) tt (omega arith) v.if-b-gt127.false), p.1 ∙ zero_not s l.i h w.if-b-eq0.false)
+        ]
+      ],
     )
 
 pub returns : goal.returns

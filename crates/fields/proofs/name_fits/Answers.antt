@@ -15,12 +15,7 @@ use Rattle.fields.proofs.name_fits.Goals as goal
 judged : (s : List ℕ) (i n : ℕ) (name : List ℕ) (t u : Bool) → n ≡ u8_at s i → (n ≡ 255 → ⊥)
     → name ≡ take n (drop (i + 1) s) → t ≡ utf8 name → u ≡ no_zero name → (t && u) ≡ name_fits (name_at s i)
 unfolding name_at
-unfolding name_at
 judged s i n name t u e f g p q = simp (← e, ne_eqb n 255 f, ← g, ← p, ← q)
-
--- what the two tests say together, from where both are made
-both : (c : tie.After-no-zero) → (c.before.is-utf8.result && c.no_zero.result) ≡ name_fits (name_at c.before.before.before.before.before.before.before.before.args.s.now c.before.before.before.before.before.before.before.before.args.i)
-both c = judged _ _ _ _ _ _ c.before.before.before.before.before.before.u8-at.ensures c.before.before.before.before.before.if1.false c.before.before.before.before.part.ensures c.before.is-utf8.ensures c.no_zero.ensures
 
 pub returns-then-n : goal.returns-then-n
 unfolding name_at
@@ -34,7 +29,11 @@ returns-then-is_plain c =
     judged a.s.now a.i c.u8_at-n.result c.part-name.result.now true true c.u8_at-n.ensures c.if-n.false c.part-name.ensures (sym passes.0) (sym passes.1)
 
 pub returns-then-text : goal.returns-then-text
-returns-then-text c = ap (λ (t : Bool). t && c.no_zero-clean.result) (sym c.if-text.true) ∙ both c
+returns-then-text c =
+    let a = c.args in
+    ap (λ (t : Bool). t && c.no_zero-clean.result) (sym c.if-text.true) ∙ judged a.s.now a.i c.u8_at-n.result c.part-name.result.now c.is_utf8-text.result c.no_zero-clean.result c.u8_at-n.ensures c.if-n.false c.part-name.ensures c.is_utf8-text.ensures c.no_zero-clean.ensures
 
 pub returns-else-text : goal.returns-else-text
-returns-else-text c = c.if-text.false ∙ ap (λ (t : Bool). t && c.no_zero-clean.result) (sym c.if-text.false) ∙ both c
+returns-else-text c =
+    let a = c.args in
+    c.if-text.false ∙ ap (λ (t : Bool). t && c.no_zero-clean.result) (sym c.if-text.false) ∙ judged a.s.now a.i c.u8_at-n.result c.part-name.result.now c.is_utf8-text.result c.no_zero-clean.result c.u8_at-n.ensures c.if-n.false c.part-name.ensures c.is_utf8-text.ensures c.no_zero-clean.ensures

@@ -23,5 +23,4 @@ pub returns-in-5 : goal.returns-in-5
 returns-in-5 c = λ h. (sym c.in-5.is, no_access _ _ h (λ e. omega (arith, e, c.in-5.is)))
 
 pub returns-in_default : goal.returns-in_default
-returns-in_default c = λ h.
-    (omega (arith, space _ _ h, c.in_default.not-0, c.in_default.not-1, c.in_default.not-2, c.in_default.not-3, c.in_default.not-4, c.in_default.not-5), no_access _ _ h c.in_default.not-4)
+returns-in_default c = λ h. (omega (arith, space _ _ h), no_access _ _ h (omega arith))

@@ -20,9 +20,8 @@ pub returns-then-out-n : goal.returns-then-out-n
 returns-then-out-n c =
     let a = c.args in 
     let f = c.front_test in 
-    let n = c.in-Listed.given in 
     promised a.words.now a.out.now _ _
-    (too_short a.words.now a.out.now f.result f.ensures c.if-front_test-ne0.false n.0.0 (sym n.1 ∙ c.list_length.ensures) c.if-out-n.true)
+    (too_short a.words.now a.out.now f.result f.ensures c.if-front_test-ne0.false c.in-Listed.n (sym c.in-Listed.is ∙ c.list_length.ensures) c.if-out-n.true)
 
 pub put_whole-requires : goal.put_whole-requires
 put_whole-requires c =
@@ -34,15 +33,13 @@ pub returns-in-Refused : goal.returns-in-Refused
 returns-in-Refused c =
     let a = c.args in 
     let f = c.front_test in 
-    let n = c.in-Refused.given in 
     promised a.words.now a.out.now _ _
-    (faulty a.words.now a.out.now f.result f.ensures c.if-front_test-ne0.false n.0.0 (sym n.1 ∙ c.list_length.ensures))
+    (faulty a.words.now a.out.now f.result f.ensures c.if-front_test-ne0.false c.in-Refused.n (sym c.in-Refused.is ∙ c.list_length.ensures))
 
 pub returns-else-out-n : goal.returns-else-out-n
 returns-else-out-n c =
     let a = c.args in 
     let f = c.front_test in 
-    let n = c.in-Listed.given in 
     let p = c.put_whole in 
     promised a.words.now a.out.now _ _
-    (listed a.words.now a.out.now f.result f.ensures c.if-front_test-ne0.false n.0.0 (sym n.1 ∙ c.list_length.ensures) c.if-out-n.false p.result p.new.out p.ensures)
+    (listed a.words.now a.out.now f.result f.ensures c.if-front_test-ne0.false c.in-Listed.n (sym c.in-Listed.is ∙ c.list_length.ensures) c.if-out-n.false p.result p.new.out p.ensures)

@@ -32,4 +32,4 @@ pub returns-in_default : goal.returns-in_default
 returns-in_default c = 
     let p = c.put_plain in 
     subst (λ (l : List ℕ). Put l c.args.left.now p.new.left p.result)
-    (sym (of_plain c.args.op c.args.form c.args.body.now c.requires.0 c.requires.1 c.in_default.not-1 c.in_default.not-3)) p.ensures
+    (sym (of_plain c.args.op c.args.form c.args.body.now c.requires.0 c.requires.1 c.in_default.in_default-own.rest.0.1 c.in_default.in_default-own.rest.1)) p.ensures

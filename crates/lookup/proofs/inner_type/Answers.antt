@@ -16,8 +16,8 @@ pub returns-in-Of-size : goal.returns-in-Of-size
 returns-in-Of-size c = rw (c.in-Value.is, c.in-Nothing.is, c.in-Of-size.is)
 
 pub returns-in-Of : goal.returns-in-Of
-returns-in-Of c = let g = c.in-Value.given.0 in 
-    rw (c.in-Value.is, c.in-Of.is) (ap (λ (z : Shape). some (shape z)) (pointed g.0 (kind_of (kind_number g.1.0) g.1.1.0)))
+returns-in-Of c = let v = c.in-Value in
+    rw (v.is, c.in-Of.is) (ap (λ (z : Shape). some (shape z)) (pointed v.size (kind_of (kind_number v.kind) v.width)))
 
 pub returns-in-Matrix : goal.returns-in-Matrix
 unfolding kind_of

@@ -11,11 +11,12 @@ use Rattle.lookup.proofs.Values.{value_small, value_packed}
 use Rattle.lookup.proofs.local_key.Goals as goal
 
 pub returns-in-Value : goal.returns-in-Value
-returns-in-Value c = let g = c.in-Value.given.0 in 
-    let e = c.scalar_code-k.ensures.0 in 
-    let v = c.value_key.ensures in 
-    let k = kind_of (kind_number g.1.0) g.1.1.0 in
-    rw c.in-Value.is (v.0 ∙ ap (λ (k : ℕ). value_key g.0 k g.1.1.1.0) e ∙ value_packed g.0 k g.1.1.1.0, value_small g.0 k g.1.1.1.0 (subst (λ (k : ℕ). SmallValue g.0 k g.1.1.1.0) e v.1))
+returns-in-Value c =
+    let g = c.in-Value in
+    let e = c.scalar_code-k.ensures.0 in
+    let v = c.value_key.ensures in
+    let k = kind_of (kind_number g.kind) g.width in
+    rw g.is (v.0 ∙ ap (λ (k : ℕ). value_key g.size k g.class) e ∙ value_packed g.size k g.class, value_small g.size k g.class (subst (λ (k : ℕ). SmallValue g.size k g.class) e v.1))
 
 pub returns-in-Matrix : goal.returns-in-Matrix
 returns-in-Matrix c = rw c.in-Matrix.is c.bytes_key.ensures

@@ -1,5 +1,6 @@
 -- An arm for each kind that has a limit; the counts are the lengths of what was read.
 use mathlib.Core.Path.{refl}
+use native.Mathlib.Omega.{arith}
 use borrow.Author.Tests.{ne_eqb}
 use Rattle.records.proofs.has_room.Goals as goal
 
@@ -19,4 +20,4 @@ pub returns-in-6 : goal.returns-in-6
 returns-in-6 c = λ n k. simp (c.in-6.is, k.globals) refl
 
 pub returns-in_default : goal.returns-in_default
-returns-in_default c = λ n k. simp (ne_eqb _ _ c.in_default.not-2, ne_eqb _ _ c.in_default.not-3, ne_eqb _ _ c.in_default.not-4, ne_eqb _ _ c.in_default.not-5, ne_eqb _ _ c.in_default.not-6)
+returns-in_default c = λ n k. simp (ne_eqb c.args.r 2 (omega arith), ne_eqb c.args.r 3 (omega arith), ne_eqb c.args.r 4 (omega arith), ne_eqb c.args.r 5 (omega arith), ne_eqb c.args.r 6 (omega arith))

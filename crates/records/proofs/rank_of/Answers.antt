@@ -24,20 +24,20 @@ returns-in-96 c = simp c.in-96.is refl
 
 pub returns-in-16-to-28 : goal.returns-in-16-to-28
 unfolding tag_rank
-returns-in-16-to-28 c = let t = c.args.tag in simp (ne_eqb _ _ c.in_default-1.rest.0.0.0.1, ne_eqb _ _ c.in_default-1.rest.0.0.1, inside 16 28 t (omega arith) (omega arith))
+returns-in-16-to-28 c = let t = c.args.tag in simp (ne_eqb t 1 (omega arith), ne_eqb t 2 (omega arith), inside 16 28 t (omega arith) (omega arith))
 
 pub returns-in-64-to-68 : goal.returns-in-64-to-68
 unfolding tag_rank
-returns-in-64-to-68 c = let t = c.args.tag in simp (ne_eqb _ _ c.in_default-1.rest.0.0.0.1, ne_eqb _ _ c.in_default-1.rest.0.0.1, ne_eqb _ _ c.in_default-1.rest.0.1, above 16 28 t (omega arith), inside 64 68 t (omega arith) (omega arith))
+returns-in-64-to-68 c = let t = c.args.tag in simp (ne_eqb t 1 (omega arith), ne_eqb t 2 (omega arith), ne_eqb t 48 (omega arith), above 16 28 t (omega arith), inside 64 68 t (omega arith) (omega arith))
 
 pub returns-in_default : goal.returns-in_default
 unfolding tag_rank
-returns-in_default c = let t = c.args.tag in simp (ne_eqb _ _ c.in_default-1.rest.0.0.0.1, ne_eqb _ _ c.in_default-1.rest.0.0.1, ne_eqb _ _ c.in_default-1.rest.0.1, ne_eqb _ _ c.in_default-1.rest.1, below 16 28 t (omega arith), below 64 68 t (omega arith))
+returns-in_default c = let t = c.args.tag in simp (ne_eqb t 1 (omega arith), ne_eqb t 2 (omega arith), ne_eqb t 48 (omega arith), ne_eqb t 96 (omega arith), below 16 28 t (omega arith), below 64 68 t (omega arith))
 
 pub returns-in_default-2 : goal.returns-in_default-2
 unfolding tag_rank
-returns-in_default-2 c = let t = c.args.tag in simp (ne_eqb _ _ c.in_default-1.rest.0.0.0.1, ne_eqb _ _ c.in_default-1.rest.0.0.1, ne_eqb _ _ c.in_default-1.rest.0.1, ne_eqb _ _ c.in_default-1.rest.1, above 16 28 t (omega arith), below 64 68 t (omega arith))
+returns-in_default-2 c = let t = c.args.tag in simp (ne_eqb t 1 (omega arith), ne_eqb t 2 (omega arith), ne_eqb t 48 (omega arith), ne_eqb t 96 (omega arith), above 16 28 t (omega arith), below 64 68 t (omega arith))
 
 pub returns-in_default-3 : goal.returns-in_default-3
 unfolding tag_rank
-returns-in_default-3 c = let t = c.args.tag in simp (ne_eqb _ _ c.in_default-1.rest.0.0.0.1, ne_eqb _ _ c.in_default-1.rest.0.0.1, ne_eqb _ _ c.in_default-1.rest.0.1, ne_eqb _ _ c.in_default-1.rest.1, above 16 28 t (omega arith), above 64 68 t (omega arith))
+returns-in_default-3 c = let t = c.args.tag in simp (ne_eqb t 1 (omega arith), ne_eqb t 2 (omega arith), ne_eqb t 48 (omega arith), ne_eqb t 96 (omega arith), above 16 28 t (omega arith), above 64 68 t (omega arith))

@@ -46,5 +46,5 @@ returns-in-6 c =
 pub returns-in_default : goal.returns-in_default
 unfolding fields_test entry_of
 returns-in_default c = 
-    let f = no_form c.args.tag c.args.body.now (λ z. c.in_default.not-5 (c.rank_of.ensures ∙ z)) in
-    simp (← c.rank_of.ensures, ne_eqb _ _ c.in_default.not-1, ne_eqb _ _ c.in_default.not-2, ne_eqb _ _ c.in_default.not-3, ne_eqb _ _ c.in_default.not-4, ne_eqb _ _ c.in_default.not-5, f) c.global_test-in_default.ensures
+    let f = no_form c.args.tag c.args.body.now (λ z. c.in_default.in_default-own.rest.0.1 (c.rank_of.ensures ∙ z)) in
+    simp (← c.rank_of.ensures, ne_eqb _ _ c.in_default.in_default-own.rest.0.0.0.0.0.1, ne_eqb _ _ c.in_default.in_default-own.rest.0.0.0.0.1, ne_eqb _ _ c.in_default.in_default-own.rest.0.0.0.1, ne_eqb _ _ c.in_default.in_default-own.rest.0.0.1, ne_eqb _ _ c.in_default.in_default-own.rest.0.1, f) c.global_test-in_default.ensures

@@ -2,7 +2,6 @@
 use Rattle.writer.proofs.Search.{hit_triple, other_triple, miss, miss1, miss2, miss3, miss4, ended}
 use Rattle.writer.specs.Rows.{triple, table_rows, seek_in}
 use Prim.Native.Nat.{◌+◌, ◌*◌, ◌-◌}
-use mathlib.Core.Logic.{⊎_elim}
 use mathlib.Core.Path.{◌≡◌, refl, sym, ◌∙◌}
 use native.Mathlib.Omega.{arith}
 use borrow.Author.Rules.{rules}

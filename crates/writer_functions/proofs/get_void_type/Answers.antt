@@ -1,6 +1,5 @@
 -- Void is there already, or it is new: Ways has both. It has no parts, so nothing has to wait for it.
 use mathlib.Core.Path.{refl}
-use borrow.Author.Rules.{rules}
 use Rattle.definition.specs.Instructions.{type_void}
 use Rattle.definition.specs.State.{void}
 use Rattle.writer_functions.specs.Written.{void_cost}

@@ -1,6 +1,5 @@
 -- Void is found or declared; an entry is found, which adds nothing.
 use native.Mathlib.Omega.{arith}
-use borrow.Author.Rules.{rules}
 use borrow.Author.Tests.{eq-eqb, ne_eqb}
 use Rattle.writer_functions.proofs.return_type_id.Goals as goal
 

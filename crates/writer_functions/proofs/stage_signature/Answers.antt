@@ -1,9 +1,8 @@
-use Prim.Native.Nat.{ℕ, ◌+◌, ◌-◌, ◌≤◌}
+use Prim.Native.Nat.{ℕ, ◌+◌}
 use mathlib.Core.Path.{◌≡◌, refl, sym, ap, ◌∙◌, subst}
 use mathlib.Core.List.{List, [], ◌∷◌}
 use native.Mathlib.Omega.{arith}
 use lib.ListN.{length}
-use borrow.Author.Rules.{rules}
 use Rattle.spirv.specs.Sections.{splice}
 use Rattle.writer.specs.Cost.{staging}
 use Rattle.writer.specs.Held.{RoomIn}
@@ -37,4 +36,4 @@ returns c =
     let z = c.stage_part in 
     let e : l.i ≡ a.n = omega arith in
     let first : waiting a.w + 0 ≡ waiting a.w = omega arith in
-    has_all a.body.now a.w a.tables.now z.new.tables l.tables a.result a.n c.requires.1 (z.ensures ∙ ap (λ (j : ℕ). splice a.tables.now j (a.result ∷ [])) first) (rw e at l.invariant.2)
+    has_all a.body.now a.w a.tables.now z.new.tables l.tables a.res a.n c.requires.1 (z.ensures ∙ ap (λ (j : ℕ). splice a.tables.now j (a.res ∷ [])) first) (rw e at l.invariant.2)

@@ -1,5 +1,4 @@
 -- What the callees leave is a record's declaring (`record_written`), once the numbers read are the body's.
-use borrow.Author.Rules.{rules}
 use Rattle.writer_functions.proofs.Ways.{record_written}
 use Rattle.writer_functions.proofs.write_function_type.Goals as goal
 

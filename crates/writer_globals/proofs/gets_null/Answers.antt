@@ -1,5 +1,4 @@
 -- By the space: with its case put in, the definition computes to the arm.
-use borrow.Author.Rules.{rules}
 use Rattle.writer_globals.proofs.gets_null.Goals as goal
 
 pub returns-in-Function : goal.returns-in-Function

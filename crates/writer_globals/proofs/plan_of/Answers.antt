@@ -1,5 +1,4 @@
 -- Each part of the plan is what its reader promises.
-use borrow.Author.Rules.{rules}
 use Rattle.writer_globals.proofs.plan_of.Goals as goal
 
 pub returns : goal.returns

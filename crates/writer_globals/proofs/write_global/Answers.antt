@@ -1,6 +1,5 @@
 -- The plan has what the rules read, and the global is declared by it.
 use mathlib.Core.List.{map}
-use borrow.Author.Rules.{rules}
 use lib.ListN.{take}
 use Rattle.records.specs.Places.{remap_from, types_from}
 use Rattle.writer_globals.proofs.write_global.Goals as goal

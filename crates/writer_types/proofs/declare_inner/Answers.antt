@@ -1,6 +1,5 @@
 -- What the program makes of the entry is the definition's shape of it, or none: so the way out is the definition's.
 use native.Mathlib.Omega.{arith}
-use borrow.Author.Rules.{rules}
 use Rattle.definition.specs.Bytes.{name_end}
 use Rattle.records.specs.Places.{types_from}
 use Rattle.writer_types.specs.Inner.{inner_in}
@@ -12,7 +11,7 @@ get_type_id-requires c = let a = c.args in
     let n = name_end a.b.now 0 in
     let m = c.make_local in 
     let l = c.in-Local in 
-    shape_room (inner_in a.b.now a.t) m.result (m.ensures a.b.now n) a.w a.tables.now a.sections.now l.given.0.0 l.given.1 c.requires.1
+    shape_room (inner_in a.b.now a.t) m.result (m.ensures a.b.now n) a.w a.tables.now a.sections.now l.l l.is c.requires.1
 
 pub write_aggregate-v-requires : goal.write_aggregate-v-requires
 write_aggregate-v-requires c = let a = c.args in 
@@ -28,7 +27,7 @@ returns-in-Local c = let a = c.args in
     let m = c.make_local in 
     let l = c.in-Local in 
     let g = c.get_type_id in 
-    shape_got (inner_in a.b.now a.t) m.result (m.ensures a.b.now n) a.w a.tables.now a.sections.now l.given.0.0 l.given.1
+    shape_got (inner_in a.b.now a.t) m.result (m.ensures a.b.now n) a.w a.tables.now a.sections.now l.l l.is
     a.debug (types_from a.s.now a.types.now a.n) g.result g.new.tables g.new.sections g.ensures
 
 pub returns-in-Aggregate : goal.returns-in-Aggregate

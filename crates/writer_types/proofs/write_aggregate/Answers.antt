@@ -2,7 +2,6 @@
 -- no aggregate, and nothing is written for it.
 use Prim.Native.Nat.{◌+◌}
 use native.Mathlib.Omega.{arith}
-use borrow.Author.Rules.{rules}
 use Rattle.definition.specs.Bytes.{name_end}
 use Rattle.records.specs.Places.{types_from}
 use Rattle.writer_types.proofs.Whole.{same, matched, struct_room, struct_written}
@@ -11,20 +10,20 @@ use Rattle.writer_types.proofs.write_aggregate.Goals as goal
 pub write_array-requires : goal.write_array-requires
 write_array-requires c = let a = c.args in 
     let t = c.in-Array in 
-    matched a.b.now a.t _ t.given.1 a.w a.tables.now a.sections.now c.requires.1
+    matched a.b.now a.t _ t.is a.w a.tables.now a.sections.now c.requires.1
 
 pub write_struct-requires : goal.write_struct-requires
 write_struct-requires c = let a = c.args in 
     let p = c.requires in 
     let t = c.in-Struct in 
     let f = c.first_member in 
-    let r = matched a.b.now a.t _ t.given.1 a.w a.tables.now a.sections.now p.1 in
-    (p.0, (omega (arith, f.ensures.upper_bound), struct_room a.b.now f.result (name_end a.b.now 0 + 5) t.given.0.1.0 f.ensures.value a.w a.tables.now a.sections.now r))
+    let r = matched a.b.now a.t _ t.is a.w a.tables.now a.sections.now p.1 in
+    (p.0, (omega (arith, f.ensures.upper_bound), struct_room a.b.now f.result (name_end a.b.now 0 + 5) t.count f.ensures.value a.w a.tables.now a.sections.now r))
 
 pub write_elements-requires : goal.write_elements-requires
 write_elements-requires c = let a = c.args in 
     let t = c.in-BindingArray in 
-    matched a.b.now a.t _ t.given.1 a.w a.tables.now a.sections.now c.requires.1
+    matched a.b.now a.t _ t.is a.w a.tables.now a.sections.now c.requires.1
 
 pub returns-in-Scalar : goal.returns-in-Scalar
 returns-in-Scalar c = let a = c.args in 
@@ -58,7 +57,7 @@ returns-in-Struct c = let a = c.args in
     let t = c.in-Struct in 
     let f = c.first_member in 
     let d = c.write_struct in 
-    rw t.given.1 (struct_written a.b.now f.result (name_end a.b.now 0 + 5) t.given.0.1.0 f.ensures.value a.w a.tables.now a.sections.now a.debug (types_from a.s.now a.types.now a.n) a.id d.result d.new.tables d.new.sections d.ensures)
+    rw t.is (struct_written a.b.now f.result (name_end a.b.now 0 + 5) t.count f.ensures.value a.w a.tables.now a.sections.now a.debug (types_from a.s.now a.types.now a.n) a.id d.result d.new.tables d.new.sections d.ensures)
 
 pub returns-in-Image : goal.returns-in-Image
 returns-in-Image c = let a = c.args in 

@@ -2,7 +2,6 @@
 -- type is declared, its key is entered, its name is written, as in the definition (`whole`).
 use mathlib.Core.Path.{sym}
 use native.Mathlib.Omega.{arith}
-use borrow.Author.Rules.{rules}
 use Rattle.records.proofs.Types.{count}
 use Rattle.records.specs.Places.{types_from}
 use Rattle.writer_types.proofs.Whole.{enough, whole}

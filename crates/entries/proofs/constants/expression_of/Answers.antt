@@ -1,7 +1,7 @@
 -- An arm for each tag: with its number put in, the definition's choice computes to that arm.
 use mathlib.Core.Path.{ap}
+use native.Mathlib.Omega.{arith}
 use borrow.Author.Tests.{ne_eqb}
-use borrow.Author.Rules.{rules}
 use Rattle.definition.specs.Sheet.{constant_fields, Value}
 use Rattle.entries.proofs.constants.expression_of.Goals as goal
 
@@ -26,4 +26,4 @@ returns-in-68 c = simp c.in-68.is c.splat.ensures
 
 pub returns-in_default : goal.returns-in_default
 unfolding constant_fields
-returns-in_default c = simp (ne_eqb _ _ c.in_default.not-64, ne_eqb _ _ c.in_default.not-65, ne_eqb _ _ c.in_default.not-66, ne_eqb _ _ c.in_default.not-67) c.splat-in_default.ensures
+returns-in_default c = simp (ne_eqb c.args.tag 64 (omega arith), ne_eqb c.args.tag 65 (omega arith), ne_eqb c.args.tag 66 (omega arith), ne_eqb c.args.tag 67 (omega arith)) c.splat-in_default.ensures

@@ -1,7 +1,7 @@
 -- An arm for each form: with its number put in, the definition's choice computes to that arm; a Bool's byte is 0 or 1, as the passed test tells.
 use mathlib.Core.Path.{ap}
+use native.Mathlib.Omega.{arith}
 use borrow.Author.Tests.{ne_eqb}
-use borrow.Author.Rules.{rules}
 use Rattle.definition.specs.Literals.{boolean}
 use Rattle.definition.specs.Sheet.{literal_fields}
 use Rattle.kinds.proofs.Fit.{flag_byte}
@@ -29,4 +29,4 @@ returns-in-4 c = λ h. let g = simp (← c.u8_at.ensures, c.in-4.is, ← c.u8_at
 
 pub returns-in_default : goal.returns-in_default
 unfolding literal_fields
-returns-in_default c = λ h. let g = simp (← c.u8_at.ensures, ne_eqb _ _ c.in_default.not-0, ne_eqb _ _ c.in_default.not-1, ne_eqb _ _ c.in_default.not-2, ne_eqb _ _ c.in_default.not-3, ← c.u8_at-in_default.ensures) at h in simp (← c.u8_at.ensures, ne_eqb _ _ c.in_default.not-0, ne_eqb _ _ c.in_default.not-1, ne_eqb _ _ c.in_default.not-2, ne_eqb _ _ c.in_default.not-3, ← c.u8_at-in_default.ensures) (ap boolean (flag_byte c.u8_at-in_default.result g))
+returns-in_default c = λ h. let g = simp (← c.u8_at.ensures, ne_eqb c.u8_at.result 0 (omega arith), ne_eqb c.u8_at.result 1 (omega arith), ne_eqb c.u8_at.result 2 (omega arith), ne_eqb c.u8_at.result 3 (omega arith), ← c.u8_at-in_default.ensures) at h in simp (← c.u8_at.ensures, ne_eqb c.u8_at.result 0 (omega arith), ne_eqb c.u8_at.result 1 (omega arith), ne_eqb c.u8_at.result 2 (omega arith), ne_eqb c.u8_at.result 3 (omega arith), ← c.u8_at-in_default.ensures) (ap boolean (flag_byte c.u8_at-in_default.result g))

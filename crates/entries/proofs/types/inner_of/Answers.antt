@@ -1,6 +1,6 @@
 -- An arm for each tag: with its number put in, the definition's choice computes to that arm.
+use native.Mathlib.Omega.{arith}
 use borrow.Author.Tests.{ne_eqb}
-use borrow.Author.Rules.{rules}
 use Rattle.definition.specs.Sheet.{type_fields}
 use Rattle.entries.proofs.Fit.{taken}
 use Rattle.entries.proofs.types.inner_of.Goals as goal
@@ -48,4 +48,4 @@ returns-in-28 c = taken _ _ _ _ _ c.binding_array.result c.in-28.is c.name_end-n
 
 pub returns-in_default : goal.returns-in_default
 unfolding type_fields
-returns-in_default c = simp (ne_eqb _ _ c.in_default.not-16, ne_eqb _ _ c.in_default.not-17, ne_eqb _ _ c.in_default.not-18, ne_eqb _ _ c.in_default.not-19, ne_eqb _ _ c.in_default.not-20, ne_eqb _ _ c.in_default.not-21, ne_eqb _ _ c.in_default.not-22, ne_eqb _ _ c.in_default.not-23, ne_eqb _ _ c.in_default.not-24, ne_eqb _ _ c.in_default.not-25, ne_eqb _ _ c.in_default.not-26, ne_eqb _ _ c.in_default.not-27, ← c.name_end-n.ensures.value) c.binding_array-in_default.ensures
+returns-in_default c = simp (ne_eqb c.args.tag 16 (omega arith), ne_eqb c.args.tag 17 (omega arith), ne_eqb c.args.tag 18 (omega arith), ne_eqb c.args.tag 19 (omega arith), ne_eqb c.args.tag 20 (omega arith), ne_eqb c.args.tag 21 (omega arith), ne_eqb c.args.tag 22 (omega arith), ne_eqb c.args.tag 23 (omega arith), ne_eqb c.args.tag 24 (omega arith), ne_eqb c.args.tag 25 (omega arith), ne_eqb c.args.tag 26 (omega arith), ne_eqb c.args.tag 27 (omega arith), ← c.name_end-n.ensures.value) c.binding_array-in_default.ensures

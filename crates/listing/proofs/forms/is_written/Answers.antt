@@ -26,4 +26,4 @@ returns-in-1 c =
 pub returns-in_default : goal.returns-in_default
 returns-in_default c =
     let a = c.args in 
-    λ o e. any_more_lem o a.n a.form e c.if-form-eq-NONE.false c.if-n-least.false c.in_default.not-0 c.in_default.not-1
+    λ o e. any_more_lem o a.n a.form e c.if-form-eq-NONE.false c.if-n-least.false c.in_default.in_default-own.rest.0.1 c.in_default.in_default-own.rest.1

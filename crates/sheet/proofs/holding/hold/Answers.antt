@@ -10,4 +10,4 @@ returns c =
     let rest = c.rest_at-rest.ensures in 
     let kept = c.note.auto in 
     held _ _ _ _ _ _ _ _ c.requires.0 (c.rank_of-rank.ensures ∙ ap tag_rank (c.tag_of.ensures ∙ ap (λ r. (record_at r).tag) rest)) c.requires.1
-    c.note.ensures c.added.ensures kept.0 kept.1.0 kept.1.1.0 kept.1.1.1.0
+    c.note.ensures c.added.ensures kept.remaps kept.types kept.constants kept.globals

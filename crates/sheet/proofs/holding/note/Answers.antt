@@ -22,4 +22,4 @@ returns-in-6 c = simp (c.in-6.is, ← c.put-in-6.ensures)
 
 pub returns-in_default : goal.returns-in_default
 unfolding noted_at
-returns-in_default c = simp (ne_eqb _ _ c.in_default.not-2, ne_eqb _ _ c.in_default.not-3, ne_eqb _ _ c.in_default.not-5, ne_eqb _ _ c.in_default.not-6)
+returns-in_default c = grind rules

@@ -30,4 +30,4 @@ returns-in-5 c = λ n l. simp (← c.rank_of.ensures, c.in-5.is) refl
 
 pub returns-in_default : goal.returns-in_default
 unfolding entry_of
-returns-in_default c = λ n l. simp (← c.rank_of.ensures, ne_eqb _ _ c.in_default.not-1, ne_eqb _ _ c.in_default.not-2, ne_eqb _ _ c.in_default.not-3, ne_eqb _ _ c.in_default.not-4, ne_eqb _ _ c.in_default.not-5)
+returns-in_default c = λ n l. grind rules

@@ -7,20 +7,25 @@ use mathlib.Core.Bool.{and-true}
 use Rattle.sheet_fields.proofs.constants.read_already.Goals as goal
 
 pub returns-in-64 : goal.returns-in-64
+unfolding constant_fields
 returns-in-64 c = simp c.in-64.is cc
 
 pub returns-in-65 : goal.returns-in-65
+unfolding constant_fields
 returns-in-65 c = simp c.in-65.is cc
 
 pub returns-in-66 : goal.returns-in-66
+unfolding constant_fields
 returns-in-66 c = simp c.in-66.is (c.one_below-in-66.ensures ∙ sym (and-true _))
 
 pub returns-in-67 : goal.returns-in-67
+unfolding constant_fields
 returns-in-67 c = simp c.in-67.is cc
 
 pub returns-in-68 : goal.returns-in-68
+unfolding constant_fields
 returns-in-68 c = simp c.in-68.is cc
 
 pub returns-in_default : goal.returns-in_default
 unfolding constant_fields
-returns-in_default c = simp (ne_eqb _ _ c.in_default.not-64, ne_eqb _ _ c.in_default.not-65, ne_eqb _ _ c.in_default.not-66, ne_eqb _ _ c.in_default.not-67) cc
+returns-in_default c = simp (ne_eqb _ _ c.in_default.in_default-own.rest.0.0.0.0.1, ne_eqb _ _ c.in_default.in_default-own.rest.0.0.0.1, ne_eqb _ _ c.in_default.in_default-own.rest.0.0.1, ne_eqb _ _ c.in_default.in_default-own.rest.0.1) cc

@@ -20,4 +20,4 @@ returns-in-1 c = simp (← c.u8_at.ensures, c.in-1.is)
 
 pub returns-in_default : goal.returns-in_default
 unfolding binding_fits global_fields
-returns-in_default c = let k = c.u8_at.result in simp (← c.u8_at.ensures, lt-leb k 1 (omega (arith, c.in_default.not-0, c.in_default.not-1)))
+returns-in_default c = let k = c.u8_at.result in simp (← c.u8_at.ensures, lt-leb k 1 (omega (arith, c.in_default.in_default-own.rest.0.1, c.in_default.in_default-own.rest.1)))

@@ -15,4 +15,4 @@ pub returns-in-8 : goal.returns-in-8
 returns-in-8 c = simp c.in-8.is cc
 
 pub returns-in_default : goal.returns-in_default
-returns-in_default c = simp (ne_eqb _ _ c.in_default.not-1, ne_eqb _ _ c.in_default.not-2, ne_eqb _ _ c.in_default.not-4, ne_eqb _ _ c.in_default.not-8) cc
+returns-in_default c = simp (ne_eqb _ _ c.in_default.in_default-own.rest.0.0.0.1, ne_eqb _ _ c.in_default.in_default-own.rest.0.0.1, ne_eqb _ _ c.in_default.in_default-own.rest.0.1, ne_eqb _ _ c.in_default.in_default-own.rest.1) cc

@@ -1,6 +1,5 @@
 -- Two decorations, each if it is there.
 use mathlib.Core.Path.{ap}
-use borrow.Author.Rules.{rules}
 use Rattle.definition.specs.Rules.{decorate_access}
 use Rattle.type_facts.specs.declared.Access.{Access}
 use Rattle.type_facts.specs.Facets.{byte_of}

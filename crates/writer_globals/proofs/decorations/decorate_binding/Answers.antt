@@ -1,7 +1,6 @@
 -- Nothing of an unbound global, two decorations of a bound one.
 -- Its numbers are words, since the fields of a binding are 32 bits wide.
 use mathlib.Core.Path.{ap}
-use borrow.Author.Rules.{rules}
 use Rattle.entries.specs.declared.globals.Binding.{Binding}
 use Rattle.writer.specs.Cost.{annotating}
 use Rattle.writer_globals.specs.Globals.{binding_decorated}

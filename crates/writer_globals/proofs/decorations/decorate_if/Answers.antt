@@ -2,7 +2,6 @@
 use mathlib.Core.Path.{ap}
 use mathlib.Core.Bool.{Bool}
 use mathlib.Core.List.{[]}
-use borrow.Author.Rules.{rules}
 use Rattle.definition.specs.Rules.{annotate_if}
 use Rattle.definition.specs.Instructions.{decorate}
 use Rattle.writer.specs.Cost.{annotating}

@@ -1,5 +1,4 @@
 -- By the binding, then by the space.
-use borrow.Author.Rules.{rules}
 use Rattle.writer_globals.proofs.fitness.bound_space_fits.Goals as goal
 
 pub returns-in-Unbound : goal.returns-in-Unbound

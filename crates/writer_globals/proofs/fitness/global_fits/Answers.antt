@@ -1,8 +1,6 @@
 -- One way out for each test that may fail, and two behind them: the tests before it passed, and those behind it count no more.
 -- The memo changes only where a type is asked whether it is zeroable.
 use mathlib.Core.Path.{refl, sym, ap, ◌∙◌}
-use borrow.Author.Tests.{not-true, not-false}
-use borrow.Author.Rules.{rules}
 use lib.Dec.{eqb}
 use Rattle.kinds.specs.Numbers.{space_number}
 use Rattle.kinds.specs.declared.AddressSpace.{AddressSpace}
@@ -26,7 +24,7 @@ returns-then-is_pointer c =
     let a = c.args in 
     λ b. record {
       held = λ S x h.
-          decided (types_from a.sheet.now a.types.now a.ntypes) x (global_of b a.global) (sym (not_function a.global.space c.in_default.keys2))
+          decided (types_from a.sheet.now a.types.now a.ntypes) x (global_of b a.global) (sym (not_function a.global.space c.in_default.not-Function))
           (sym c.if-is_pointer.true ∙ c.is_pointer.ensures) refl refl refl refl;
       memo = c.requires.3;
     }
@@ -36,9 +34,9 @@ returns-then-not-bound_space_fits c =
     let a = c.args in 
     λ b. record {
       held = λ S x h.
-          decided (types_from a.sheet.now a.types.now a.ntypes) x (global_of b a.global) (sym (not_function a.global.space c.in_default.keys2))
+          decided (types_from a.sheet.now a.types.now a.ntypes) x (global_of b a.global) (sym (not_function a.global.space c.in_default.not-Function))
           (sym c.if-is_pointer.false ∙ c.is_pointer.ensures)
-          (sym (not-true c.bound_space_fits.result c.if-not-bound_space_fits.true-raw) ∙ c.bound_space_fits.ensures) refl refl refl;
+          (sym c.if-not-bound_space_fits.true ∙ c.bound_space_fits.ensures) refl refl refl;
       memo = c.requires.3;
     }
 
@@ -47,10 +45,10 @@ returns-then-not-init_fits c =
     let a = c.args in 
     λ b. record {
       held = λ S x h.
-          decided (types_from a.sheet.now a.types.now a.ntypes) x (global_of b a.global) (sym (not_function a.global.space c.in_default.keys2))
+          decided (types_from a.sheet.now a.types.now a.ntypes) x (global_of b a.global) (sym (not_function a.global.space c.in_default.not-Function))
           (sym c.if-is_pointer.false ∙ c.is_pointer.ensures)
-          (sym (not-false c.bound_space_fits.result c.if-not-bound_space_fits.false-raw) ∙ c.bound_space_fits.ensures)
-          (sym (not-true c.init_fits.result c.if-not-init_fits.true-raw) ∙ c.init_fits.ensures S x h (global_of b a.global) refl refl) refl refl;
+          (sym c.if-not-bound_space_fits.false ∙ c.bound_space_fits.ensures)
+          (sym c.if-not-init_fits.true ∙ c.init_fits.ensures S x h (global_of b a.global) refl refl) refl refl;
       memo = c.requires.3;
     }
 
@@ -59,10 +57,10 @@ returns-then-is_zeroed c =
     let a = c.args in 
     λ b. record {
       held = λ S x h.
-          decided (types_from a.sheet.now a.types.now a.ntypes) x (global_of b a.global) (sym (not_function a.global.space c.in_default.keys2))
+          decided (types_from a.sheet.now a.types.now a.ntypes) x (global_of b a.global) (sym (not_function a.global.space c.in_default.not-Function))
           (sym c.if-is_pointer.false ∙ c.is_pointer.ensures)
-          (sym (not-false c.bound_space_fits.result c.if-not-bound_space_fits.false-raw) ∙ c.bound_space_fits.ensures)
-          (sym (not-false c.init_fits.result c.if-not-init_fits.false-raw) ∙ c.init_fits.ensures S x h (global_of b a.global) refl refl)
+          (sym c.if-not-bound_space_fits.false ∙ c.bound_space_fits.ensures)
+          (sym c.if-not-init_fits.false ∙ c.init_fits.ensures S x h (global_of b a.global) refl refl)
           (sym c.if-is_zeroed.true ∙ c.is_zeroed.ensures) c.is_zeroable.ensures.0;
       memo = c.is_zeroable.ensures.1;
     }
@@ -72,10 +70,10 @@ returns c =
     let a = c.args in 
     λ b. record {
       held = λ S x h.
-          decided (types_from a.sheet.now a.types.now a.ntypes) x (global_of b a.global) (sym (not_function a.global.space c.in_default.keys2))
+          decided (types_from a.sheet.now a.types.now a.ntypes) x (global_of b a.global) (sym (not_function a.global.space c.in_default.not-Function))
           (sym c.if-is_pointer.false ∙ c.is_pointer.ensures)
-          (sym (not-false c.bound_space_fits.result c.if-not-bound_space_fits.false-raw) ∙ c.bound_space_fits.ensures)
-          (sym (not-false c.init_fits.result c.if-not-init_fits.false-raw) ∙ c.init_fits.ensures S x h (global_of b a.global) refl refl)
+          (sym c.if-not-bound_space_fits.false ∙ c.bound_space_fits.ensures)
+          (sym c.if-not-init_fits.false ∙ c.init_fits.ensures S x h (global_of b a.global) refl refl)
           (sym c.if-is_zeroed.false ∙ c.is_zeroed.ensures) refl;
       memo = c.requires.3;
     }

@@ -1,6 +1,5 @@
 -- No init fits; one outside Private never does; else by the two type ids.
 use mathlib.Core.Path.{ap}
-use borrow.Author.Rules.{rules}
 use lib.Dec.{eqb}
 use Rattle.kinds.specs.Numbers.{space_number}
 use Rattle.kinds.specs.declared.AddressSpace.{AddressSpace}
@@ -10,7 +9,7 @@ use Rattle.writer_globals.proofs.Chain.{no_init, elsewhere, of_type_lem}
 use Rattle.writer_globals.proofs.fitness.init_fits.Goals as goal
 
 pub returns-in_default : goal.returns-in_default
-returns-in_default c = λ S s h g es et. elsewhere s g es et (init_constant c.args.init) (ap init_constant c.in-Constant.is) (not_private c.args.space c.in_default.keys2)
+returns-in_default c = λ S s h g es et. elsewhere s g es et (init_constant c.args.init) (ap init_constant c.in-Constant.is) (not_private c.args.space c.in_default.not-Private)
 
 pub returns-in-Missing : goal.returns-in-Missing
 returns-in-Missing c = λ S s h g es et. no_init s g es et (init_constant c.args.init) (ap init_constant c.in-Missing.is)

@@ -2,7 +2,6 @@
 -- One way out for each form, and two for the direct one: no binding array, or no remap.
 use mathlib.Core.Path.{refl, sym, ap, ◌∙◌}
 use mathlib.Core.List.{map}
-use borrow.Author.Rules.{rules}
 use lib.ListN.{take}
 use Rattle.records.specs.Places.{remap_from, types_from}
 use Rattle.entries.specs.Globals.{global_of}

@@ -1,7 +1,6 @@
 -- By the binding.
 use mathlib.Core.List.{map}
 use mathlib.Core.Path.{sym, ap, ◌∙◌}
-use borrow.Author.Rules.{rules}
 use lib.ListN.{take}
 use Rattle.records.specs.Places.{remap_from}
 use Rattle.writer_globals.specs.Globals.{size_for}

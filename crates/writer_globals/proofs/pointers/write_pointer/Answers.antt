@@ -2,7 +2,6 @@
 -- Each has its own cost, which is within the one of all three.
 use mathlib.Core.Path.{sym, ap}
 use native.Mathlib.Omega.{arith}
-use borrow.Author.Rules.{rules}
 use Rattle.kinds.specs.Numbers.{space_number}
 use Rattle.writer_globals.specs.declared.pointers.PointerForm.{PointerForm}
 use Rattle.writer_globals.specs.Globals.{pointer_by}

@@ -2,7 +2,6 @@
 -- the callees promise, in the order of the calls. The type is an entry, and finding it changes nothing (`entry_got`).
 use mathlib.Core.Path.{◌∙◌}
 use native.Mathlib.Omega.{arith}
-use borrow.Author.Rules.{rules}
 use Rattle.type_facts.specs.Facets.{number_of}
 use Rattle.finding.proofs.Entries.{entry_got}
 use Rattle.writer_globals.proofs.PointerForms.{room_find, room_struct, room_id, room_pointer, wrapper}

@@ -1,7 +1,5 @@
-use mathlib.Core.Path.{◌∙◌}
 use native.Mathlib.Omega.{arith}
-use borrow.Author.Rules.{rules}
-use Rattle.writer_types.proofs.Putting.{Putting, headed, next, ended}
+use Rattle.writer_types.proofs.Putting.{headed, next, ended}
 use Rattle.writer_types.proofs.aggregates.put_struct.Goals as goal
 
 pub loop-k-init : goal.loop-k-init

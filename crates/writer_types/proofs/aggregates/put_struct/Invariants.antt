@@ -1,9 +1,6 @@
 -- The invariant (`Putting`): the words that wait and the ids that are left are the instruction's words; the count says when
 -- all are put. A name ends within 256 bytes, so the places of 255 members stay far below the limit of a usize.
-use mathlib.Core.Path.{◌∙◌}
-use native.Mathlib.Omega.{arith}
-use borrow.Author.Rules.{rules}
-use Rattle.writer_types.proofs.Putting.{Putting, headed, next, ended}
+use Rattle.writer_types.proofs.Putting.{Putting}
 use Rattle.writer_types.proofs.aggregates.put_struct.Given as goal
 
 abbrev pub invariant-loop-k : goal.invariant-loop-k

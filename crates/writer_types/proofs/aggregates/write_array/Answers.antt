@@ -1,5 +1,4 @@
 -- The stride, then what an array shares with a BindingArray.
-use borrow.Author.Rules.{rules}
 use Rattle.writer_types.proofs.Arrays.{strided}
 use Rattle.writer_types.proofs.aggregates.write_array.Goals as goal
 

@@ -1,6 +1,5 @@
 -- The base, then the length if there is one, then the instruction; each callee's promise is the definition's next step. The base is
 -- an entry, and finding an entry changes nothing (`entry_got`).
-use borrow.Author.Rules.{rules}
 use Rattle.finding.proofs.Ways.{taken}
 use Rattle.finding.proofs.Entries.{entry_got}
 use Rattle.writer_types.proofs.Arrays.{runtime, sized}

@@ -1,5 +1,4 @@
 -- The flag first, then whether there is a name.
-use borrow.Author.Rules.{rules}
 use Rattle.writer_types.proofs.names.is_written.Goals as goal
 
 pub returns-then-debug : goal.returns-then-debug

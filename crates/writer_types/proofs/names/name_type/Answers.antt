@@ -1,6 +1,5 @@
 -- Written or not, as the definition's `label_if` has it; a name's length is a byte.
 use native.Mathlib.Omega.{arith}
-use borrow.Author.Rules.{rules}
 use Rattle.definition.specs.Bytes.{name_at}
 use Rattle.definition.specs.Instructions.{name}
 use Rattle.writer_types.proofs.Named.{unnamed, named, name_room}

@@ -1,5 +1,4 @@
 -- Block, or nothing.
-use borrow.Author.Rules.{rules}
 use Rattle.writer_types.proofs.Decorating.{unblocked, blocked}
 use Rattle.writer_types.proofs.structs.block_if.Goals as goal
 

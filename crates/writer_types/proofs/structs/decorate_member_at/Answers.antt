@@ -1,7 +1,6 @@
 -- What is read of a member, and the shared decorations of it.
 use native.Mathlib.Omega.{arith}
 use Prim.Native.Nat.{◌+◌}
-use borrow.Author.Rules.{rules}
 use Rattle.records.specs.Places.{types_from}
 use Rattle.writer_types.proofs.Decorating.{member_room, member}
 use Rattle.writer_types.proofs.structs.decorate_member_at.Goals as goal

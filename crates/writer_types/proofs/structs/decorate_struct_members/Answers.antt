@@ -1,7 +1,6 @@
 use native.Mathlib.Omega.{arith}
-use borrow.Author.Rules.{rules}
 use Rattle.records.specs.Places.{types_from}
-use Rattle.writer_types.proofs.Decorating.{Going, begun, room_left, on, done}
+use Rattle.writer_types.proofs.Decorating.{begun, room_left, on, done}
 use Rattle.writer_types.proofs.structs.decorate_struct_members.Goals as goal
 
 pub loop-k-init : goal.loop-k-init

@@ -1,9 +1,7 @@
 -- The invariant (`Going`): some state is held, and decorating the members that are left takes it to what decorating all of them
 -- comes to; the bytes of the members passed pay for what was written.
-use native.Mathlib.Omega.{arith}
-use borrow.Author.Rules.{rules}
 use Rattle.records.specs.Places.{types_from}
-use Rattle.writer_types.proofs.Decorating.{Going, begun, room_left, on, done}
+use Rattle.writer_types.proofs.Decorating.{Going}
 use Rattle.writer_types.proofs.structs.decorate_struct_members.Given as goal
 
 abbrev pub invariant-loop-k : goal.invariant-loop-k

@@ -1,7 +1,6 @@
 use native.Mathlib.Omega.{arith}
-use borrow.Author.Rules.{rules}
 use Rattle.records.specs.Places.{types_from}
-use Rattle.writer_types.proofs.Decorating.{Seeking, sought, hit, miss, lacking}
+use Rattle.writer_types.proofs.Decorating.{sought, hit, miss, lacking}
 use Rattle.writer_types.proofs.structs.has_runtime_array.Goals as goal
 
 pub loop-k-init : goal.loop-k-init

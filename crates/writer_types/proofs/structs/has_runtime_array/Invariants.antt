@@ -1,8 +1,6 @@
 -- There is one among all the members if there is one among those that the loop has not passed (`Seeking`).
-use native.Mathlib.Omega.{arith}
-use borrow.Author.Rules.{rules}
 use Rattle.records.specs.Places.{types_from}
-use Rattle.writer_types.proofs.Decorating.{Seeking, sought, hit, miss, lacking}
+use Rattle.writer_types.proofs.Decorating.{Seeking}
 use Rattle.writer_types.proofs.structs.has_runtime_array.Given as goal
 
 abbrev pub invariant-loop-k : goal.invariant-loop-k

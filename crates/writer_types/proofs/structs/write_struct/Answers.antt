@@ -1,7 +1,5 @@
 -- Two passes over the members, with Block between them, come to the definition's one (`declared`).
-use mathlib.Core.Path.{◌∙◌}
 use native.Mathlib.Omega.{arith}
-use borrow.Author.Rules.{rules}
 use Rattle.records.specs.Places.{types_from}
 use Rattle.writer_types.proofs.Decorating.{declared}
 use Rattle.writer_types.proofs.Walking.{members-length}
