@@ -1,5 +1,4 @@
 -- The part behind length and tag; a length of 0 has no byte for the tag, and the body is empty.
-use borrow.Author.Rules.{rules}
 use Rattle.definition.specs.Sheet.{record_at}
 use Rattle.records.proofs.body_of.Goals as goal
 

@@ -1,5 +1,4 @@
 -- A chain of tests; the first is a range, and both its sides refuse with 1.
-use borrow.Author.Rules.{rules}
 use Rattle.definition.specs.Tests.{header_test}
 use Rattle.records.proofs.Chain.{below, above, inside, stop_ne, go_eq, stop_le, go_lt}
 use Rattle.records.proofs.header_test.Goals as goal

@@ -1,7 +1,6 @@
 -- The three ways in which no record stands there are those of the definition, in its order.
 use native.Mathlib.Omega.{arith}
 use borrow.Author.Tests.{lt-leb, le-leb, lt-ltb}
-use borrow.Author.Rules.{rules}
 use Rattle.definition.specs.Tests.{no_record}
 use Rattle.records.proofs.Places.{not_leb}
 use Rattle.records.proofs.no_record.Goals as goal

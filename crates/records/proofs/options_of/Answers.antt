@@ -1,6 +1,5 @@
 -- Both options are bits of one byte, which was read.
 use mathlib.Core.Path.{ap}
-use borrow.Author.Rules.{rules}
 use Rattle.definition.specs.Sheet.{options_of}
 use Rattle.records.proofs.options_of.Goals as goal
 

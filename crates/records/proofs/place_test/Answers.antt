@@ -1,6 +1,5 @@
 -- A chain of three tests over the rank of the tag.
 use mathlib.Core.Path.{refl}
-use borrow.Author.Rules.{rules}
 use Rattle.definition.specs.Tests.{place_test}
 use Rattle.records.proofs.Chain.{stop, go, stop_not, go_not, go_pos}
 use Rattle.records.proofs.place_test.Goals as goal

@@ -1,6 +1,5 @@
 -- What `part` gives is cut at the sheet's own length, so nothing is cut off.
 use mathlib.Core.Path.{◌∙◌}
-use borrow.Author.Rules.{rules}
 use Rattle.records.proofs.Places.{rest}
 use Rattle.records.proofs.rest_at.Goals as goal
 

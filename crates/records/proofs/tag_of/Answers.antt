@@ -1,5 +1,4 @@
 -- The tag is the byte behind the length.
-use borrow.Author.Rules.{rules}
 use Rattle.definition.specs.Sheet.{record_at}
 use Rattle.records.proofs.tag_of.Goals as goal
 
