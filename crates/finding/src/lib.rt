@@ -60,7 +60,7 @@ fn put_declaration(
 }
 
 // The id of a type, which is declared if it has none yet. Of an entry that is not there it is 0.
-#[cycle(get_constant_scalar_get_type_id_write_type_declaration_local)]
+#[cycle(find_and_declare)]
 pub fn get_type_id(tables: &mut [u64], sections: &mut [u32], w: Writer, ty: LookupType) -> Taken
     requires { Room (cost_of (key_of ty)) w tables.old sections.old }
     ensures { GotBy (cost_of (key_of ty)) (find (key_of ty)) w tables.old sections.old result tables.new sections.new }
@@ -87,7 +87,7 @@ pub fn get_type_id(tables: &mut [u64], sections: &mut [u32], w: Writer, ty: Look
 }
 
 // Declares a shape under its id: what it names first, then the shape.
-#[cycle(get_constant_scalar_get_type_id_write_type_declaration_local)]
+#[cycle(find_and_declare)]
 fn write_type_declaration_local(
     tables: &mut [u64],
     sections: &mut [u32],
@@ -176,7 +176,7 @@ fn write_literal(sections: &mut [u32], w: Writer, l: Literal, ty: u64, id: u64) 
 }
 
 // The id of a literal, which takes its id before its type is found.
-#[cycle(get_constant_scalar_get_type_id_write_type_declaration_local)]
+#[cycle(find_and_declare)]
 pub fn get_constant_scalar(
     tables: &mut [u64],
     sections: &mut [u32],

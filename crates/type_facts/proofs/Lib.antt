@@ -1,4 +1,3 @@
 pub mod Laws
 pub mod Members
-pub mod Others
 pub mod Remaps

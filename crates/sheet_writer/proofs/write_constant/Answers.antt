@@ -1,8 +1,7 @@
 -- What was taken from the body is its constant, since test 10 passed: test 13 is of it, and it is declared at what its record pays.
-use mathlib.Core.Path.{◌≡◌, refl, sym, subst}
-use mathlib.Core.Bool.{true}
+use mathlib.Core.Path.{ap, ◌≡◌, refl, sym, subst}
+use mathlib.Core.Bool.{not, true}
 use native.Mathlib.Omega.{arith}
-use borrow.Author.Rules.{rules}
 use Rattle.definition.specs.Sheet.{Expression}
 use Rattle.definition.specs.Tests.{expression_types, below}
 use Rattle.records.specs.Places.{types_from}
@@ -27,7 +26,7 @@ returns-then-not-expression_fits c =
     let f = c.expression_fits in 
     let q = is_taken a.n (record_of a.tag a.body.now) c.requires.1.0 c.expression_of-expr.result c.expression_of-expr.ensures in
     let t = subst (λ (x : Expression). TestsConstant (types_from a.s.now a.types.now a.n) x a.w a.tables.now f.result) q f.ensures.0 in
-    (record { told = λ S x h. stop _ _ 13 0 (t S x h) c.if-not-expression_fits.true-raw; written = λ z. absurd (omega (arith, z)) }, f.ensures.1)
+    (record { told = λ S x h. stop _ _ 13 0 (t S x h) (ap not c.if-not-expression_fits.true); written = λ z. absurd (omega (arith, z)) }, f.ensures.1)
 
 pub write_constant_expr-v-requires : goal.write_constant_expr-v-requires
 write_constant_expr-v-requires c =
@@ -52,7 +51,7 @@ returns c =
     let q = is_taken a.n r c.requires.1.0 c.expression_of-expr.result c.expression_of-expr.ensures in
     let t = subst (λ (y : Expression). TestsConstant ts y a.w a.tables.now f.result) q f.ensures.0 in (
       record {
-        told = λ S y h. go _ _ 13 0 0 (t S y h) c.if-not-expression_fits.false-raw refl;
+        told = λ S y h. go _ _ 13 0 0 (t S y h) (ap not c.if-not-expression_fits.false) refl;
         written = λ z.
             written a.n r c.requires.1.0 ts a.w a.tables.now a.sections.now x.result x.new.tables x.new.sections
             (subst (λ (y : Expression). ConstantWritten (expression_cost y) ts y a.w a.tables.now a.sections.now x.result x.new.tables x.new.sections) q x.ensures);

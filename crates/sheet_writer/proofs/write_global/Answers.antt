@@ -1,7 +1,7 @@
 -- What was taken from the body is its global, since test 10 passed: test 13 is of it, and it is declared at what its record pays.
+use mathlib.Core.Bool.{not}
 use mathlib.Core.Path.{refl, ap, subst}
 use native.Mathlib.Omega.{arith}
-use borrow.Author.Rules.{rules}
 use Rattle.definition.specs.Sheet.{Global}
 use Rattle.records.specs.Places.{types_from}
 use Rattle.records.proofs.Chain.{stop, go}
@@ -21,7 +21,7 @@ returns-then-not-global_fits c =
     let f = c.global_fits in 
     let e = as_read a.body.now c.requires.1.1.0 c.global_of-global.result c.global_of-global.ensures in
     let t = subst (λ (x : Global). TestsGlobal (types_from a.s.now a.types.now a.k.types) x a.w a.tables.now f.result f.new.memo) e (f.ensures a.body.now) in
-    (record { told = λ S x h. stop _ _ 13 0 (t.held S x h) c.if-not-global_fits.true-raw; written = λ z. absurd (omega (arith, z)) }, t.memo)
+    (record { told = λ S x h. stop _ _ 13 0 (t.held S x h) (ap not c.if-not-global_fits.true); written = λ z. absurd (omega (arith, z)) }, t.memo)
 
 pub write_global-v-requires : goal.write_global-v-requires
 write_global-v-requires c = let p = c.requires in (p.0, p.1.0, record_room c.args.body.now p.1.1.0 p.1.1.1.0)
@@ -32,4 +32,4 @@ returns c =
     let f = c.global_fits in 
     let e = as_read a.body.now c.requires.1.1.0 c.global_of-global.result c.global_of-global.ensures in
     let t = subst (λ (x : Global). TestsGlobal (types_from a.s.now a.types.now a.k.types) x a.w a.tables.now f.result f.new.memo) e (f.ensures a.body.now) in
-    (record { told = λ S x h. go _ _ 13 0 0 (t.held S x h) c.if-not-global_fits.false-raw refl; written = λ z. record_kept a.body.now c.requires.1.1.0 e c.write_global-v.ensures }, t.memo)
+    (record { told = λ S x h. go _ _ 13 0 0 (t.held S x h) (ap not c.if-not-global_fits.false) refl; written = λ z. record_kept a.body.now c.requires.1.1.0 e c.write_global-v.ensures }, t.memo)

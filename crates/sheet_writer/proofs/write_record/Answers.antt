@@ -1,6 +1,6 @@
 -- Tests 5 to 12, and where they pass what the record's kind comes to: the definition's `record_test` and `declare_entry` (Turns).
+use native.Mathlib.Omega.{arith}
 use mathlib.Core.Path.{sym, ap, ◌∙◌}
-use borrow.Author.Rules.{rules}
 use Rattle.definition.specs.Sheet.{tag_rank}
 use Rattle.records.specs.Flags.{options_from}
 use Rattle.sheet_writer.proofs.Turns.{read_first, type_asks, function_asks, constant_asks, global_asks, type_comes, function_comes, constant_comes, global_comes, other_comes}
@@ -34,4 +34,4 @@ pub returns-in-6 : goal.returns-in-6
 returns-in-6 c = global_comes c.requires c.record_test-r.ensures c.if-r-ne0.false (options_from c.args.options) c.args.available (ap tag_rank (sym c.tag_of-tag.ensures) ∙ sym c.rank_of.ensures ∙ c.in-6.is) c.write_global.ensures.1 (rw c.body_of-body.ensures at c.write_global.ensures.0)
 
 pub returns-in_default : goal.returns-in_default
-returns-in_default c = other_comes c.requires c.record_test-r.ensures c.if-r-ne0.false (options_from c.args.options) c.args.available c.rank_of.result (c.rank_of.ensures ∙ ap tag_rank c.tag_of-tag.ensures) c.in_default.not-3 c.in_default.not-4 c.in_default.not-5 c.in_default.not-6
+returns-in_default c = other_comes c.requires c.record_test-r.ensures c.if-r-ne0.false (options_from c.args.options) c.args.available c.rank_of.result (c.rank_of.ensures ∙ ap tag_rank c.tag_of-tag.ensures) (omega arith) (omega arith) (omega arith) (omega arith)

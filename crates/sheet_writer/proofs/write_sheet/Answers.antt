@@ -1,15 +1,13 @@
-use Rattle.sheet_writer.proofs.Loop.{Holds, begins, fits, four, ready, refuses, passed, turns}
+use Rattle.sheet_writer.proofs.Loop.{begins, fits, four, ready, refuses, passed, turns}
 use Rattle.sheet_writer.specs.Turning.{RecordWritten}
 use Rattle.definition.specs.Sheet.{record_at, Options}
 use Rattle.sheet.specs.Hash.{HashFor}
 use Rattle.records.proofs.Loop.{judge_stop}
 use Rattle.records.specs.Places.{places_of}
-use lib.ListN.{length}
-use Prim.Native.Nat.{ℕ, ◌-◌}
+use Prim.Native.Nat.{ℕ}
 use native.Mathlib.Omega.{arith}
 use mathlib.Core.Path.{sym, ◌∙◌, subst}
 use mathlib.Core.List.{List}
-use borrow.Author.Rules.{rules}
 use Rattle.sheet_writer.proofs.write_sheet.Goals as goal
 
 pub returns-then-h-ne0 : goal.returns-then-h-ne0

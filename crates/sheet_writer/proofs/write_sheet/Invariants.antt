@@ -1,17 +1,9 @@
 -- The invariant (`Holds`): some state is held, and the rest of the sheet, from here, comes to what the whole comes to; the measure is
 -- what is left of the sheet. Each way out and the turn is one law of Loop, to whose form what the callees ensure is brought.
-use Rattle.sheet_writer.proofs.Loop.{Holds, begins, fits, four, ready, refuses, passed, turns}
-use Rattle.sheet_writer.specs.Turning.{RecordWritten}
-use Rattle.definition.specs.Sheet.{record_at, Options}
-use Rattle.sheet.specs.Hash.{HashFor}
-use Rattle.records.proofs.Loop.{judge_stop}
+use Rattle.sheet_writer.proofs.Loop.{Holds}
 use Rattle.records.specs.Places.{places_of}
 use lib.ListN.{length}
-use Prim.Native.Nat.{ℕ, ◌-◌}
-use native.Mathlib.Omega.{arith}
-use mathlib.Core.Path.{sym, ◌∙◌, subst}
-use mathlib.Core.List.{List}
-use borrow.Author.Rules.{rules}
+use Prim.Native.Nat.{◌-◌}
 use Rattle.sheet_writer.proofs.write_sheet.Given as goal
 
 abbrev pub invariant-loop-at : goal.invariant-loop-at

@@ -1,7 +1,7 @@
 -- What was taken from the body is its type, since test 10 passed: test 14 is of it, and it is declared.
-use mathlib.Core.Path.{refl, sym}
+use mathlib.Core.Bool.{not}
+use mathlib.Core.Path.{ap, refl, sym}
 use native.Mathlib.Omega.{arith}
-use borrow.Author.Rules.{rules}
 use Rattle.definition.specs.Bytes.{name_end}
 use Rattle.records.specs.Places.{type_of_record}
 use Rattle.records.proofs.Chain.{stop, go}
@@ -12,7 +12,7 @@ pub returns-then-not-type_fits : goal.returns-then-not-type_fits
 returns-then-not-type_fits c =
     let b = c.args.body.now in 
     let e = c.inner_of-ty.ensures c.requires.1.1.0.values in
-    record { told = λ o f. stop _ _ 14 0 (c.type_fits.ensures o f b (name_end b 0) e) c.if-not-type_fits.true-raw; written = λ z. absurd (omega (arith, z)) }
+    record { told = λ o f. stop _ _ 14 0 (c.type_fits.ensures o f b (name_end b 0) e) (ap not c.if-not-type_fits.true); written = λ z. absurd (omega (arith, z)) }
 
 pub write_type_declaration_arena-v-requires : goal.write_type_declaration_arena-v-requires
 write_type_declaration_arena-v-requires c =
@@ -25,6 +25,6 @@ returns c =
     let b = a.body.now in
     let e = c.inner_of-ty.ensures c.requires.1.1.0.values in
     record {
-      told = λ o f. go _ _ 14 0 0 (c.type_fits.ensures o f b (name_end b 0) e) c.if-not-type_fits.false-raw refl;
+      told = λ o f. go _ _ 14 0 0 (c.type_fits.ensures o f b (name_end b 0) e) (ap not c.if-not-type_fits.false) refl;
       written = λ z. c.write_type_declaration_arena-v.ensures (type_of_record (record_of a.tag b)) (record { name = refl; inner = sym e });
     }

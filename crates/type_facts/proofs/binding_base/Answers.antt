@@ -1,6 +1,5 @@
 -- What the facet says of the type.
 use mathlib.Core.Path.{sym, ap, ◌∙◌}
-use borrow.Author.Rules.{rules}
 use Rattle.definition.specs.Rules.{inner_at}
 use Rattle.records.specs.Places.{types_from}
 use Rattle.type_facts.proofs.Laws.{base}

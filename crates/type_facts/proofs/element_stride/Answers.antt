@@ -1,6 +1,5 @@
 -- The stride that the facet says, of the type itself or of what it is an array of; which of the two, the facet says too.
 use mathlib.Core.Path.{sym, ap, ◌∙◌}
-use borrow.Author.Rules.{rules}
 use Rattle.definition.specs.Rules.{inner_at, matrix_stride}
 use Rattle.records.specs.Places.{types_from}
 use Rattle.type_facts.proofs.Laws.{stride, element, element_by}

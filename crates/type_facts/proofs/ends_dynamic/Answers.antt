@@ -1,7 +1,6 @@
-use Prim.Native.Nat.{◌+◌, ◌*◌, ◌≤◌, ◌<◌}
-use mathlib.Core.Path.{◌≡◌, sym, ap, ◌∙◌}
+use Prim.Native.Nat.{◌+◌}
+use mathlib.Core.Path.{sym, ap, ◌∙◌}
 use native.Mathlib.Omega.{arith}
-use borrow.Author.Rules.{rules}
 use Rattle.definition.specs.Rules.{ends_dynamic}
 use Rattle.definition.specs.Sheet.{members_at}
 use Rattle.definition.specs.Bytes.{u8_at, name_end}

@@ -1,14 +1,11 @@
 -- The last member of all is the last of those that the loop has not passed; it stops at one, which is the last. A name ends
 -- within 256 bytes, so that the places of 255 members stay far below the limit of a usize.
 use Prim.Native.Nat.{◌+◌, ◌*◌, ◌≤◌, ◌<◌}
-use mathlib.Core.Path.{◌≡◌, sym, ap, ◌∙◌}
-use native.Mathlib.Omega.{arith}
-use borrow.Author.Rules.{rules}
+use mathlib.Core.Path.{◌≡◌}
 use Rattle.definition.specs.Rules.{ends_dynamic}
 use Rattle.definition.specs.Sheet.{members_at}
 use Rattle.definition.specs.Bytes.{u8_at, name_end}
 use Rattle.records.specs.Places.{types_from}
-use Rattle.type_facts.proofs.Members.{last_on, last_one, no_member}
 use Rattle.type_facts.proofs.ends_dynamic.Given as goal
 
 abbrev pub invariant-loop-k : goal.invariant-loop-k

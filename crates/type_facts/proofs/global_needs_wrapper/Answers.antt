@@ -2,7 +2,6 @@
 use mathlib.Core.Bool.{◌&&◌}
 use mathlib.Core.Path.{sym, ap, ◌∙◌}
 use borrow.Author.Tests.{not-true, not-false}
-use borrow.Author.Rules.{rules}
 use Rattle.definition.specs.Rules.{inner_at, wraps_type}
 use Rattle.records.specs.Places.{types_from}
 use Rattle.type_facts.proofs.Laws.{wrapper}

@@ -1,9 +1,7 @@
-use Prim.Native.Nat.{◌-◌, ◌≤◌}
-use mathlib.Core.Path.{◌≡◌, refl, sym, ◌∙◌}
+use mathlib.Core.Path.{refl, sym, ◌∙◌}
 use native.Mathlib.Omega.{arith}
-use borrow.Author.Rules.{rules}
 use Rattle.entries.specs.Globals.{remap_as}
-use Rattle.type_facts.proofs.Remaps.{remap_among, no_more, other_group, other_binding, this_one}
+use Rattle.type_facts.proofs.Remaps.{no_more, other_group, other_binding, this_one}
 use Rattle.type_facts.proofs.remapped_size_of.Goals as goal
 
 pub entries-init : goal.entries-init

@@ -1,10 +1,7 @@
 -- The first remap among all of them is the first among those that the loop has not passed.
 use Prim.Native.Nat.{◌-◌, ◌≤◌}
-use mathlib.Core.Path.{◌≡◌, refl, sym, ◌∙◌}
-use native.Mathlib.Omega.{arith}
-use borrow.Author.Rules.{rules}
-use Rattle.entries.specs.Globals.{remap_as}
-use Rattle.type_facts.proofs.Remaps.{remap_among, no_more, other_group, other_binding, this_one}
+use mathlib.Core.Path.{◌≡◌}
+use Rattle.type_facts.proofs.Remaps.{remap_among}
 use Rattle.type_facts.proofs.remapped_size_of.Given as goal
 
 abbrev pub invariant-entries : goal.invariant-entries

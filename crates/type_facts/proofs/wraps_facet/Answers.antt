@@ -2,12 +2,10 @@
 use Prim.Native.Nat.{◌+◌}
 use mathlib.Core.Bool.{not}
 use mathlib.Core.Path.{sym, ap, ◌∙◌}
-use borrow.Author.Rules.{rules}
 use Rattle.definition.specs.Bytes.{name_end, u8_at}
 use Rattle.definition.specs.Sheet.{members_at}
 use Rattle.records.specs.Places.{types_from}
 use Rattle.type_facts.specs.Facets.{wraps_in}
-use Rattle.type_facts.proofs.Others.{wrapped}
 use Rattle.type_facts.proofs.wraps_facet.Goals as goal
 
 pub returns-in-Struct : goal.returns-in-Struct
@@ -17,6 +15,3 @@ returns-in-Struct c =
     let n = name_end b 0 in
     ap not c.ends_dynamic.ensures
     ∙ sym (ap (λ f. wraps_in (types_from a.s.now a.types.now a.n) f (members_at b (n + 5) (u8_at b (n + 4)))) c.in-Struct.is)
-
-pub returns-in_default : goal.returns-in_default
-returns-in_default c = wrapped _ _ c.args.f c.in_default.keys3

@@ -1,7 +1,6 @@
 -- The facet of the fields that stand at the place says what the type says; past the places there is no type.
 use Prim.Native.Nat.{◌+◌}
 use mathlib.Core.Path.{refl, sym, ap, ◌∙◌}
-use borrow.Author.Rules.{rules}
 use Rattle.definition.specs.Rules.{wraps_type}
 use Rattle.definition.specs.Sheet.{members_at}
 use Rattle.definition.specs.Bytes.{name_end, u8_at}

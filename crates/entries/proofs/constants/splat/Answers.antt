@@ -1,5 +1,4 @@
 -- The fields are the bytes that were read.
-use borrow.Author.Rules.{rules}
 use Rattle.definition.specs.Sheet.{constant_fields}
 use Rattle.entries.proofs.constants.splat.Goals as goal
 

@@ -1,6 +1,5 @@
 -- Unbound, group and binding are 0; else bound is 1.
 use mathlib.Core.Path.{sym, ◌∙◌}
-use borrow.Author.Rules.{rules}
 use Rattle.definition.specs.Sheet.{global_fields}
 use Rattle.entries.proofs.Fit.{unbound, bound}
 use Rattle.entries.proofs.globals.binding_of.Goals as goal

@@ -1,5 +1,4 @@
 -- The body is that of the record at the place.
-use borrow.Author.Rules.{rules}
 use Rattle.entries.proofs.globals.global_at.Goals as goal
 
 pub returns : goal.returns

@@ -1,6 +1,5 @@
 -- Each field by itself; space, access and binding as the passed test tells.
 use Prim.Native.Nat.{◌+◌}
-use borrow.Author.Rules.{rules}
 use Rattle.definition.specs.Tests.{binding_fits, space_fits}
 use Rattle.definition.specs.Bytes.{u8_at}
 use Rattle.definition.specs.Sheet.{global_fields}

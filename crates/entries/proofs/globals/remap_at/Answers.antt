@@ -1,5 +1,4 @@
 -- The body is that of the record at the place.
-use borrow.Author.Rules.{rules}
 use Rattle.definition.specs.Sheet.{remap_fields}
 use Rattle.entries.proofs.globals.remap_at.Goals as goal
 

@@ -1,5 +1,4 @@
 -- Each field by itself.
-use borrow.Author.Rules.{rules}
 use Rattle.definition.specs.Sheet.{remap_fields}
 use Rattle.entries.proofs.globals.remap_of.Goals as goal
 

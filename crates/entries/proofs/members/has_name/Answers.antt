@@ -4,7 +4,6 @@ use mathlib.Core.Option.{some, none}
 use mathlib.Core.List.{List}
 use mathlib.Core.Bool.{Bool, true, false, not}
 use mathlib.Core.Path.{◌≡◌, refl}
-use borrow.Author.Rules.{rules}
 use lib.ListN.{get_or, take, drop}
 use lib.Dec.{eqb}
 use Rattle.definition.specs.Tests.{present}

@@ -1,6 +1,5 @@
 -- No name, or as many bytes as the length byte says.
 use borrow.Author.Tests.{ne_eqb}
-use borrow.Author.Rules.{rules}
 use Rattle.definition.specs.Bytes.{name_at}
 use Rattle.entries.proofs.members.name_part.Goals as goal
 

@@ -1,5 +1,4 @@
 -- Each field by itself.
-use borrow.Author.Rules.{rules}
 use Rattle.definition.specs.Sheet.{type_fields}
 use Rattle.entries.proofs.types.array.Goals as goal
 

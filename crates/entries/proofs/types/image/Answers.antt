@@ -1,6 +1,5 @@
 -- Each field by itself, as the passed tests tell.
 use borrow.Author.Tests.{leb-true}
-use borrow.Author.Rules.{rules}
 use Rattle.definition.specs.Sheet.{type_fields}
 use Rattle.definition.proofs.Truth.{both}
 use Rattle.kinds.proofs.Fit.{flag}

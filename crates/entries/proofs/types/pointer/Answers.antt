@@ -1,5 +1,4 @@
 -- Each field by itself; the space as the passed test tells.
-use borrow.Author.Rules.{rules}
 use Rattle.definition.specs.Sheet.{type_fields}
 use Rattle.entries.proofs.types.pointer.Goals as goal
 

@@ -1,5 +1,4 @@
 -- A flag.
-use borrow.Author.Rules.{rules}
 use Rattle.definition.specs.Sheet.{type_fields}
 use Rattle.kinds.proofs.Fit.{flag}
 use Rattle.entries.proofs.types.sampler.Goals as goal

@@ -1,5 +1,4 @@
 -- Each field by itself; the kind as the passed test tells.
-use borrow.Author.Rules.{rules}
 use Rattle.definition.specs.Sheet.{type_fields}
 use Rattle.kinds.proofs.Fit.{kind}
 use Rattle.entries.proofs.types.scalar.Goals as goal

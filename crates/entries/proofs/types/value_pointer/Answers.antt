@@ -1,7 +1,6 @@
 -- Each field by itself; the kind and the space as the passed tests tell.
 use Prim.Native.Nat.{◌+◌}
 use mathlib.Core.Bool.{◌&&◌, ◌||◌}
-use borrow.Author.Rules.{rules}
 use lib.Dec.{eqb}
 use Rattle.definition.specs.Tests.{size_fits, scalar_fits, space_fits}
 use Rattle.definition.specs.Bytes.{u8_at}

@@ -1,6 +1,5 @@
 -- Each field by itself; the kind as the passed test tells.
 use Prim.Native.Nat.{◌+◌}
-use borrow.Author.Rules.{rules}
 use Rattle.definition.specs.Tests.{size_fits, scalar_fits}
 use Rattle.definition.specs.Bytes.{u8_at}
 use Rattle.definition.specs.Sheet.{type_fields}

@@ -1,5 +1,4 @@
 -- An arm for each rank: with its number put in, the definition's choice computes to that arm.
-use borrow.Author.Tests.{ne_eqb}
 use borrow.Author.Rules.{rules}
 use Rattle.sheet.specs.Holding.{add_counts}
 use Rattle.sheet.proofs.holding.added.Goals as goal

@@ -1,5 +1,4 @@
 -- An arm for each rank that has a slice; the other slices stay.
-use borrow.Author.Tests.{ne_eqb}
 use borrow.Author.Rules.{rules}
 use Rattle.sheet.specs.Holding.{noted_at}
 use Rattle.sheet.proofs.holding.note.Goals as goal

@@ -1,6 +1,5 @@
 -- Only a remap and a type can be repeated.
 use mathlib.Core.Path.{refl, sym, ◌∙◌}
-use borrow.Author.Tests.{ne_eqb}
 use borrow.Author.Rules.{rules}
 use Rattle.definition.specs.Sheet.{entry_of}
 use Rattle.sheet.proofs.repeats.is_repeated.Goals as goal

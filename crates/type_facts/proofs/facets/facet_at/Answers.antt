@@ -1,6 +1,5 @@
 -- The facet of the fields that stand at the place; past the places there is no type.
 use mathlib.Core.Path.{refl, sym, ap, ◌∙◌}
-use borrow.Author.Rules.{rules}
 use Rattle.records.proofs.Types.{inner_read, inner_past}
 use Rattle.type_facts.specs.Facets.{facet_of}
 use Rattle.type_facts.proofs.facets.facet_at.Goals as goal

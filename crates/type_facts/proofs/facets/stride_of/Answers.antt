@@ -2,7 +2,6 @@
 use mathlib.Core.Path.{◌≡◌}
 use mathlib.Core.Bool.{Bool, true, false, not, ◌&&◌}
 use borrow.Author.Tests.{not-true, not-false}
-use borrow.Author.Rules.{rules}
 use Rattle.type_facts.proofs.facets.stride_of.Goals as goal
 
 both-fit : (r s q t : Bool) → r ≡ s → not r ≡ false → q ≡ t → not q ≡ false → (s && t) ≡ true

@@ -1,7 +1,6 @@
 -- A composite is there already, or it is new: Ways has both. All that is asked of room follows from the room for the whole
 -- and from how much the calls before have added.
 use native.Mathlib.Omega.{arith}
-use borrow.Author.Rules.{rules}
 use Rattle.lookup.specs.Local.{key_of}
 use Rattle.writer_constants.proofs.Ways.{composite_old, composite_new}
 use Rattle.writer_constants.proofs.composites.get_constant_composite.Goals as goal

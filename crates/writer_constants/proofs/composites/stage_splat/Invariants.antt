@@ -1,14 +1,9 @@
 -- The loop's list is the list before it with k times the id put in, behind all that is in use.
-use Prim.Native.Nat.{ℕ, ◌+◌, ◌-◌, ◌≤◌}
-use mathlib.Core.Path.{◌≡◌, refl, ap, ◌∙◌}
-use mathlib.Core.List.{List, [], ◌∷◌}
-use native.Mathlib.Omega.{arith}
+use Prim.Native.Nat.{◌-◌, ◌≤◌}
+use mathlib.Core.Path.{◌≡◌}
 use lib.ListN.{length, replicate}
-use borrow.Author.Rules.{rules}
 use Rattle.spirv.specs.Sections.{splice}
-use Rattle.spirv.proofs.Splices.{splice-length, splice_none}
-use Rattle.writer.proofs.Staged.{waiting, staged}
-use Rattle.writer_constants.proofs.Staging.{same_length as count, splat_more}
+use Rattle.writer.proofs.Staged.{waiting}
 use Rattle.writer_constants.proofs.composites.stage_splat.Given as goal
 
 abbrev pub invariant-loop-k : goal.invariant-loop-k

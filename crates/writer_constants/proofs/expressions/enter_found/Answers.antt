@@ -1,5 +1,4 @@
 -- The type's id is what the definition finds, so the value entered is the definition's.
-use borrow.Author.Rules.{rules}
 use Rattle.lookup.specs.Local.{key_of}
 use Rattle.writer_constants.proofs.Entering.{found_entered}
 use Rattle.writer_constants.proofs.expressions.enter_found.Goals as goal

@@ -2,7 +2,6 @@
 use mathlib.Core.Path.{refl}
 use native.Mathlib.Omega.{arith}
 use borrow.Author.Tests.{ne_eqb}
-use borrow.Author.Rules.{rules}
 use Rattle.definition.specs.Shapes.{kind_of}
 use Rattle.writer_constants.proofs.expressions.kind_code.Goals as goal
 
@@ -20,4 +19,4 @@ returns-in-2 c = rw c.in-2.is (omega arith, omega arith)
 
 pub returns-in_default : goal.returns-in_default
 unfolding kind_of
-returns-in_default c = rw (ne_eqb _ _ c.in_default.not-0, ne_eqb _ _ c.in_default.not-1, ne_eqb _ _ c.in_default.not-2) (refl, omega arith)
+returns-in_default c = rw (ne_eqb c.args.k 0 (omega arith), ne_eqb c.args.k 1 (omega arith), ne_eqb c.args.k 2 (omega arith)) (refl, omega arith)

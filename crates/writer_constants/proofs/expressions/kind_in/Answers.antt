@@ -3,7 +3,6 @@ use Prim.Native.Nat.{ℕ}
 use mathlib.Core.Path.{sym, ap, ◌∙◌}
 use mathlib.Core.Option.{some}
 use native.Mathlib.Omega.{arith}
-use borrow.Author.Rules.{rules}
 use Rattle.definition.specs.Bytes.{name_end}
 use Rattle.definition.specs.Shapes.{kind_of}
 use Rattle.definition.specs.Sheet.{type_fields}
@@ -61,4 +60,4 @@ pub returns-in-28 : goal.returns-in-28
 returns-in-28 c = let a = c.args in (sym (ap kind_code (no_kind a.tag a.d.now (name_end a.d.now 0) (λ e. omega (arith, e, c.in-28.is)))), omega arith)
 
 pub returns-in_default : goal.returns-in_default
-returns-in_default c = let a = c.args in (sym (ap kind_code (no_kind a.tag a.d.now (name_end a.d.now 0) c.in_default.not-16)), omega arith)
+returns-in_default c = let a = c.args in (sym (ap kind_code (no_kind a.tag a.d.now (name_end a.d.now 0) (omega arith))), omega arith)

@@ -1,5 +1,4 @@
 -- By the enum's case: with it put in, the definition computes to the arm's kind.
-use borrow.Author.Rules.{rules}
 use Rattle.definition.specs.Shapes.{kind_of}
 use Rattle.writer_constants.proofs.expressions.literal_code.Goals as goal
 

@@ -1,7 +1,6 @@
 -- The kind of the fields that stand at the place; past the places there is no type.
 use mathlib.Core.Path.{refl, sym, ap, ◌∙◌}
 use native.Mathlib.Omega.{arith}
-use borrow.Author.Rules.{rules}
 use Rattle.definition.specs.Bytes.{name_end}
 use Rattle.definition.specs.Sheet.{TypeInner}
 use Rattle.definition.specs.Rules.{kind_of_scalar}

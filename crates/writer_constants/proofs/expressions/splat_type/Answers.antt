@@ -2,7 +2,6 @@
 use Prim.Native.Nat.{◌-◌, ◌/◌, ◌%◌}
 use mathlib.Core.Path.{refl, sym, subst}
 use native.Mathlib.Omega.{arith}
-use borrow.Author.Rules.{rules}
 use Rattle.definition.specs.Shapes.{Key}
 use Rattle.kinds.specs.Numbers.{kind_number}
 use Rattle.writer_constants.specs.Entered.{SplatType}

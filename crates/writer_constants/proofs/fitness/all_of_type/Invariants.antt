@@ -1,15 +1,11 @@
 -- The test of all parts is the test of those that are left, as long as each so far is of the type.
 use Prim.Native.Nat.{ℕ, ◌+◌, ◌-◌, ◌*◌, ◌≤◌}
-use mathlib.Core.Path.{◌≡◌, sym, ap, ◌∙◌}
+use mathlib.Core.Path.{◌≡◌}
 use mathlib.Core.List.{List}
-use native.Mathlib.Omega.{arith}
-use borrow.Author.Rules.{rules}
-use Rattle.definition.specs.Bytes.{u16_at}
 use Rattle.definition.specs.Sheet.{u16s_at}
 use Rattle.definition.specs.State.{State}
 use Rattle.writer.specs.Held.{Held}
 use Rattle.writer_constants.specs.Fitting.{all_of}
-use Rattle.writer_constants.proofs.Fitting.{same_type, other_type, none_left, type_read_lem}
 use Rattle.writer_constants.proofs.fitness.all_of_type.Given as goal
 
 abbrev pub invariant-loop-i : goal.invariant-loop-i

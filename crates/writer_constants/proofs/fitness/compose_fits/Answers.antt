@@ -2,7 +2,6 @@
 use mathlib.Core.Path.{refl, sym, subst}
 use mathlib.Core.Bool.{false}
 use native.Mathlib.Omega.{arith}
-use borrow.Author.Rules.{rules}
 use Rattle.definition.specs.Bytes.{name_end}
 use Rattle.definition.specs.Sheet.{TypeInner, u16s_at}
 use Rattle.definition.specs.Unfit.{part_places_of}

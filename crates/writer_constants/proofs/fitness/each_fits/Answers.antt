@@ -1,5 +1,4 @@
 -- The counts differ, or the parts are tested against the type's id.
-use borrow.Author.Rules.{rules}
 use Rattle.lookup.specs.Local.{key_of}
 use Rattle.writer_constants.proofs.Fitting.{other_count, this_count}
 use Rattle.writer_constants.proofs.fitness.each_fits.Goals as goal

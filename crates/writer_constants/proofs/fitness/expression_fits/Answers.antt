@@ -4,7 +4,6 @@ use mathlib.Core.Path.{◌≡◌, refl, subst}
 use mathlib.Core.Bool.{true}
 use lib.Dec.{ltb}
 use borrow.Author.Tests.{ltb-true}
-use borrow.Author.Rules.{rules}
 use Rattle.definition.specs.Tests.{expression_types, below}
 use Rattle.definition.specs.Rules.{value_at}
 use Rattle.definition.specs.Unfit.{constant_fits}

@@ -1,16 +1,13 @@
-use Prim.Native.Nat.{ℕ, ◌+◌, ◌-◌, ◌*◌, ◌≤◌}
+use Prim.Native.Nat.{ℕ, ◌+◌, ◌-◌}
 use mathlib.Core.Path.{◌≡◌, sym, ap, ◌∙◌}
-use mathlib.Core.List.{List}
 use native.Mathlib.Omega.{arith}
-use borrow.Author.Rules.{rules}
 use Rattle.definition.specs.Choice.{or_else}
-use Rattle.definition.specs.Bytes.{u8_at, u16_at}
+use Rattle.definition.specs.Bytes.{u16_at}
 use Rattle.definition.specs.Shapes.{entry}
 use Rattle.definition.specs.Sheet.{u16s_at, members_at}
 use Rattle.definition.specs.Tests.{member_types}
-use Rattle.definition.specs.State.{State, id_of}
+use Rattle.definition.specs.State.{id_of}
 use Rattle.definition.specs.Unfit.{members_fit}
-use Rattle.writer.specs.Held.{Held}
 use Rattle.writer_constants.proofs.Fitting.{member_same, member_other, parts_lack, members_end_lem, type_read_lem}
 use Rattle.writer_constants.proofs.fitness.members_fit.Goals as goal
 

@@ -4,7 +4,6 @@ use Prim.Native.Nat.{◌+◌}
 use mathlib.Core.Path.{refl, sym, ◌∙◌}
 use mathlib.Core.Bool.{false}
 use native.Mathlib.Omega.{arith}
-use borrow.Author.Rules.{rules}
 use Rattle.definition.specs.Bytes.{u8_at}
 use Rattle.definition.specs.Shapes.{kind_of, scalar, vector, entry, shape}
 use Rattle.definition.specs.Sheet.{u16s_at, members_at}
@@ -72,4 +71,4 @@ returns-in-23 c =
 pub returns-in_default : goal.returns-in_default
 returns-in_default c = let a = c.args in let d = a.d.now in let p = c.name_end-p in 
     fit_by a.tag d p.result p.ensures.value (u16s_at a.b.now 4 a.n) a.w a.tables.now false nowhere
-    (no_places a.tag d p.result c.in_default.not-17 c.in_default.not-18 c.in_default.not-22 c.in_default.not-23) (λ S s h. refl)
+    (no_places a.tag d p.result (omega arith) (omega arith) (omega arith) (omega arith)) (λ S s h. refl)
