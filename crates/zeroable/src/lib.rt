@@ -23,7 +23,7 @@ fn keep(memo: &mut [u8], i: usize, z: bool)
 }
 
 // Whether type i of the first n is zeroable.
-#[cycle(is_zeroable_zero_entry_zero_members_zero_part)]
+#[cycle(zeroable_parts)]
 pub fn is_zeroable(s: &[u8], types: &[u32], n: usize, i: usize, memo: &mut [u8]) -> bool
     requires { (n ≤ length types.now) × ((i < n) × Memo (types_from s.now types.now n) memo.old) }
     ensures { (result ≡ zeroable (types_from s.now types.now n) i) × Memo (types_from s.now types.now n) memo.new }
@@ -41,7 +41,7 @@ pub fn is_zeroable(s: &[u8], types: &[u32], n: usize, i: usize, memo: &mut [u8])
 }
 
 // The same, by the type's tag: a sized Array as its base, a Struct as its members.
-#[cycle(is_zeroable_zero_entry_zero_members_zero_part)]
+#[cycle(zeroable_parts)]
 fn zero_entry(s: &[u8], types: &[u32], n: usize, i: usize, memo: &mut [u8]) -> bool
     requires { (n ≤ length types.now) × ((i < n) × Memo (types_from s.now types.now n) memo.old) }
     ensures { (result ≡ zeroable (types_from s.now types.now n) i) × Memo (types_from s.now types.now n) memo.new }
@@ -66,7 +66,7 @@ fn zero_entry(s: &[u8], types: &[u32], n: usize, i: usize, memo: &mut [u8]) -> b
 }
 
 // The same of type j, which counts as a part of type i only where it stands before it.
-#[cycle(is_zeroable_zero_entry_zero_members_zero_part)]
+#[cycle(zeroable_parts)]
 fn zero_part(s: &[u8], types: &[u32], n: usize, i: usize, j: usize, memo: &mut [u8]) -> bool
     requires { (n ≤ length types.now) × ((i < n) × Memo (types_from s.now types.now n) memo.old) }
     ensures { (result ≡ part_zeroable (types_from s.now types.now n) i j) × Memo (types_from s.now types.now n) memo.new }
@@ -78,7 +78,7 @@ fn zero_part(s: &[u8], types: &[u32], n: usize, i: usize, j: usize, memo: &mut [
 }
 
 // The same of each member of a struct of body b, whose name ends at `at`.
-#[cycle(is_zeroable_zero_entry_zero_members_zero_part)]
+#[cycle(zeroable_parts)]
 fn zero_members(
     s: &[u8],
     types: &[u32],

@@ -1,7 +1,6 @@
 -- The loop's outcome and the last stage come to the definition's Declare (`declared`), and what was read is what its Wrapped asks
 -- (`wrapped_as`): one reading for both.
 use native.Mathlib.Omega.{arith}
-use borrow.Author.Rules.{rules}
 use Rattle.records.specs.Places.{places_of}
 use Rattle.declarations.proofs.Laws.{all_bytes, roomed, declared, standing, wrapped_as, lent, ample}
 use Rattle.declarations.proofs.answers_in.Goals as goal

@@ -2,7 +2,6 @@
 use lib.ListN.{length-replicate}
 use mathlib.Core.Logic.{inr}
 use native.Mathlib.Omega.{arith}
-use borrow.Author.Rules.{rules}
 use Rattle.declarations.proofs.answers_middle.Goals as goal
 
 pub answers_in-requires : goal.answers_in-requires

@@ -5,7 +5,6 @@ use Rattle.declarations.specs.declared.Verdict.{Verdict}
 use mathlib.Core.List.{[], ◌∷◌}
 use mathlib.Core.Path.{sym, subst}
 use native.Mathlib.Omega.{arith}
-use borrow.Author.Rules.{rules}
 use Rattle.declarations.proofs.check.Goals as goal
 
 pub returns : goal.returns

@@ -1,6 +1,5 @@
 -- A refusal is handed on; else the last stage's promise.
 use Rattle.declarations.proofs.Laws.{roomy, ended_refused, ended_fit}
-use borrow.Author.Rules.{rules}
 use Rattle.declarations.proofs.finish.Goals as goal
 
 pub write_module-requires : goal.write_module-requires

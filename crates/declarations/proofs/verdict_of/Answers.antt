@@ -1,6 +1,5 @@
 -- By the answer's case and number.
 use Rattle.declarations.proofs.Laws.{verdict_16, verdict_other}
-use borrow.Author.Rules.{rules}
 use Rattle.declarations.proofs.verdict_of.Goals as goal
 
 pub returns-then-n-eq16 : goal.returns-then-n-eq16

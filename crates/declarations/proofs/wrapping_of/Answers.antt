@@ -2,7 +2,6 @@
 use Rattle.declarations.proofs.Laws.{wraps_refused, stood, wraps_15, wraps_17, wraps_answer, taken_wraps}
 use mathlib.Core.Path.{refl}
 use native.Mathlib.Omega.{arith}
-use borrow.Author.Rules.{rules}
 use Rattle.declarations.proofs.wrapping_of.Goals as goal
 
 pub returns-then-g-ge-BOUND_MOST : goal.returns-then-g-ge-BOUND_MOST

@@ -1,5 +1,4 @@
 -- A flag for each answer.
-use borrow.Author.Rules.{rules}
 use Rattle.zeroable.proofs.keep.Goals as goal
 
 pub returns-then-z : goal.returns-then-z

@@ -1,0 +1,28 @@
+-- The index falls from a type to its parts; in between, four calls go down from the flag to the entry, its members and a part.
+-- The loop over the members keeps the memo right, and that the members which are left answer as all do.
+use Rattle.std.proofs.Common.{◌≡◌, ◌+◌, ◌*◌, ◌≤◌, length}
+use Rattle.definition.specs.Bytes.{u8_at}
+use Rattle.records.specs.Places.{types_from}
+use Rattle.zeroable.specs.Memo.{Memo, zero_members}
+use Rattle.zeroable.proofs.+zeroable_parts.Given as goal
+
+abbrev pub decreases-is_zeroable : goal.decreases-is_zeroable
+decreases-is_zeroable l = 4 * l.i + 3
+
+abbrev pub decreases-zero_entry : goal.decreases-zero_entry
+decreases-zero_entry l = 4 * l.i + 2
+
+abbrev pub decreases-zero_members : goal.decreases-zero_members
+decreases-zero_members l = 4 * l.i + 1
+
+abbrev pub decreases-zero_part : goal.decreases-zero_part
+decreases-zero_part l = 4 * l.i
+
+abbrev pub invariant-zero_members-loop-k : goal.invariant-zero_members-loop-k
+invariant-zero_members-loop-k l =
+    let ts = types_from l.s l.types l.n in
+    (length l.memo ≡ length l.initial.memo) × ((l.p + 300 * l.k ≤ 80000) × (Memo ts l.memo
+    × (zero_members ts l.i l.b (l.at + 5) (u8_at l.b (l.at + 4)) ≡ zero_members ts l.i l.b l.p l.k)))
+
+abbrev pub decreases-zero_members-loop-k : goal.decreases-zero_members-loop-k
+decreases-zero_members-loop-k l = l.k
