@@ -12,7 +12,7 @@ use lib.ListN.{length, take, drop, length-append}
 use lib.Seq.{take_at, drop_at}
 use Rattle.definition.specs.Choice.{every}
 use Rattle.definition.specs.Instructions.{Instruction, optional, body, words, all_words}
-use Rattle.definition.specs.Reader.{layout_of, formed, split, checked, joined, read_one, read_all, is_word, read_module}
+use Rattle.definition.specs.Reader.{layout_of, split, checked, joined, read_one, read_all, is_word, read_module}
 use Rattle.definition.specs.State.{State, bound_of, instructions, module_words}
 use Rattle.definition.specs.WellDeclared.{declares_id}
 use Rattle.definition.proofs.Sizes.{W, Under, under-append, Sized}

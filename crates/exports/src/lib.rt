@@ -1,5 +1,4 @@
-// For C and Rust to call: document 01's three operations and paper 3's, their answers as numbers. `include/voulkrod.h` says what each
-// pointer must be; a slice passes as a pointer and a length.
+// The four operations, their answers as numbers, for callers that know no enum of Rattle's. `exports_c` hands them to C and Rust.
 #![tactic(auto)]
 
 ghost use Rattle.std.specs.Prelude.{◌≡◌};
@@ -55,8 +54,7 @@ fn number_of_listing(l: Listing) -> u64
 }
 
 // Check: 0 for Fit, else the number of the refusal.
-#[unsafe(no_mangle)]
-pub extern "C" fn voulkrod_check(sheet: &[u8]) -> u32
+pub fn voulkrod_check(sheet: &[u8]) -> u32
     ensures { CheckExported sheet.now result }
 {
     number_of_verdict(declarations::check(sheet))
@@ -64,24 +62,21 @@ pub extern "C" fn voulkrod_check(sheet: &[u8]) -> u32
 
 // Declare: the bound in the high half and the word count in the low half where the module is written, and a bound is
 // never 0; else the number of the refusal.
-#[unsafe(no_mangle)]
-pub extern "C" fn voulkrod_declare(sheet: &[u8], words: &mut [u32]) -> u64
+pub fn voulkrod_declare(sheet: &[u8], words: &mut [u32]) -> u64
     ensures { DeclareExported sheet.now words.old result words.new }
 {
     number_of_answer(declarations::declare(sheet, words))
 }
 
 // Wrapped: 256 for no, 257 for yes, else the number of the refusal.
-#[unsafe(no_mangle)]
-pub extern "C" fn voulkrod_wrapped(sheet: &[u8], index: usize) -> u32
+pub fn voulkrod_wrapped(sheet: &[u8], index: usize) -> u32
     ensures { WrappedExported sheet.now index result }
 {
     number_of_wrapping(declarations::wrapped(sheet, index))
 }
 
 // List: 256 and the list's length together, else the number of the refusal, which is below 256.
-#[unsafe(no_mangle)]
-pub extern "C" fn voulkrod_list(words: &[u32], list: &mut [u32]) -> u64
+pub fn voulkrod_list(words: &[u32], list: &mut [u32]) -> u64
     ensures { ListExported words.now list.old result list.new }
 {
     number_of_listing(listing::list(words, list))

@@ -232,17 +232,17 @@ fn put_answer_to(text: &mut [u8], input: &[u8]) -> usize
     }
 }
 
-fn print_answer_to(input: &[u8]) {
+fn print_answer_to(rt: &(impl Print + Eprint), input: &[u8]) {
     let mut text = [0u8; TEXT];
     let n = put_answer_to(&mut text, input);
-    streams::print(&text[..n]);
+    streams::print(rt, &text[..n]);
 }
 
-fn main() {
+fn main(rt: HostRuntime) {
     let mut buffer = [0u8; INPUT];
-    let input = streams::read_input(&mut buffer);
+    let input = streams::read_input(&rt, &mut buffer);
     let n = input.held;
     if !input.failed {
-        print_answer_to(&buffer[..n]);
+        print_answer_to(&rt, &buffer[..n]);
     }
 }

@@ -6,7 +6,6 @@ use native.Mathlib.Numerals.{add-one}
 use native.Mathlib.Omega.{arith}
 use lib.ListN.{length, get_or, take, drop, set}
 use lib.Seq.{sets, sets-eq, length-sets, set_comm, take-suc, length-take-le}
-use Rattle.io.proofs.Counting.{prefix_len_of_le}
 use Rattle.printing.specs.Text.{Printed}
 
 pub sets-append : (l : List ℕ) (i : ℕ) (xs ys : List ℕ) → sets l i (xs ++ ys) ≡ sets (sets l i xs) (i + length xs) ys
@@ -48,5 +47,5 @@ printed bytes before after r e k h =
     record {
       text = e ∙ sets-eq bytes before 0 (omega arith) ∙ ap (λ (n : ℕ). bytes ++ drop n before) (sym z);
       count = k;
-      within = prefix_len_of_le r after w;
+      within = (w, sym (length-take-le r after w));
     }

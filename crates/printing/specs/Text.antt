@@ -2,7 +2,7 @@
 -- digits, or `refused_text N`".
 use Rattle.std.specs.Prelude.{ℕ, zero, suc, ◌/◌, ◌%◌, ◌+◌, ◌≡◌, Bool, true, false, List, [], ◌∷◌, ◌++◌, ltb, length, drop}
 use Rattle.std.proofs.lemmas.List.Edits.{sets}
-use Rattle.io.specs.Counts.{IsPrefixLen}
+use Rattle.std.specs.Counts.{IsPrefixLen}
 use Rattle.definition.specs.Choice.{pick}
 
 abbrev pub newline : ℕ

@@ -48,17 +48,17 @@ fn put_answer_to(sheet: &[u8], text: &mut [u8]) -> usize
     }
 }
 
-fn print_answer_to(sheet: &[u8]) {
+fn print_answer_to(rt: &(impl Print + Eprint), sheet: &[u8]) {
     let mut text = [0u8; TEXT];
     let n = put_answer_to(sheet, &mut text);
-    streams::print(&text[..n]);
+    streams::print(rt, &text[..n]);
 }
 
-fn main() {
+fn main(rt: HostRuntime) {
     let mut sheet = [0u8; SHEET];
-    let input = streams::read_input(&mut sheet);
+    let input = streams::read_input(&rt, &mut sheet);
     let n = input.held;
     if !input.failed {
-        print_answer_to(&sheet[..n]);
+        print_answer_to(&rt, &sheet[..n]);
     }
 }

@@ -9,7 +9,6 @@ use Rattle.spirv.specs.Put.{Put}
 use Rattle.spirv.proofs.Puts as Puts
 use Rattle.writer.specs.declared.Writer.{Writer}
 use Rattle.spirv.specs.Ids.{low}
-use Rattle.writer.specs.Rows.{part}
 use Rattle.writer.specs.Regions.{section_at, names, more}
 use Rattle.writer.specs.Cost.{naming}
 use Rattle.writer.specs.Held.{RoomFor}

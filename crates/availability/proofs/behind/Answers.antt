@@ -19,6 +19,6 @@ returns-in-1 c = λ n h.
 
 pub returns-in_default : goal.returns-in_default
 returns-in_default c = λ n h.
-    let a = c.args in 
+    let a = c.args in
     let q = c.rank_of.ensures ∙ ap tag_rank c.tag_of.ensures in
     subst (λ (o : Option (List ℕ)). Flagged o a.a) (sym (keeps n (record_at a.rest.now) (λ e. let f : c.rank_of.result ≡ 1 → ⊥ = omega arith in f (q ∙ e)))) h

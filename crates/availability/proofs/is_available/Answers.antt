@@ -22,5 +22,5 @@ pub returns-in-4472 : goal.returns-in-4472
 returns-in-4472 c = rw c.in-4472.is
 
 pub returns-in_default : goal.returns-in_default
-returns-in_default c = 
+returns-in_default c =
     rw (ne_eqb c.args.cap 34 (omega arith), ne_eqb c.args.cap 43 (omega arith), ne_eqb c.args.cap 44 (omega arith), ne_eqb c.args.cap 45 (omega arith), ne_eqb c.args.cap 49 (omega arith), ne_eqb c.args.cap 4472 (omega arith))

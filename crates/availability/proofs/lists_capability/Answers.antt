@@ -11,12 +11,12 @@ whole_u32_at-requires c = omega (arith, c.loop-left.invariant.inside, c.loop-lef
 
 pub returns-then-cap-whole_u32_at : goal.returns-then-cap-whole_u32_at
 returns-then-cap-whole_u32_at c =
-    let l = c.loop-left in 
+    let l = c.loop-left in
     found _ _ l.invariant c.loop-left-test.true (c.if-cap-whole_u32_at.true ∙ c.whole_u32_at.ensures)
 
 pub loop-left-preserved : goal.loop-left-preserved
 loop-left-preserved c =
-    let l = c.loop-left in 
+    let l = c.loop-left in
     turn _ _ l.invariant c.loop-left-test.true (λ e. c.if-cap-whole_u32_at.false (e ∙ sym c.whole_u32_at.ensures))
 
 pub returns : goal.returns

@@ -8,5 +8,5 @@ use native.Mathlib.Omega.{arith}
 use Rattle.declarations.proofs.check.Goals as goal
 
 pub returns : goal.returns
-returns c = let s = c.args.sheet.now in let d = c.declare-a in 
+returns c = let s = c.args.sheet.now in let d = c.declare-a in
     subst (λ (v : Verdict). CheckPromise s v) (sym c.verdict_of.ensures) (checked s (0 ∷ []) d.result d.new.words (omega arith) d.ensures.same)

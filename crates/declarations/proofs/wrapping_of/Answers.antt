@@ -20,7 +20,7 @@ pub returns-in-Refused : goal.returns-in-Refused
 returns-in-Refused c = let a = c.args in wraps_refused a.sheet.now a.types.now a.globals.now a.o a.index c.in-Refused.n c.in-Refused.is
 
 pub returns-else-k-index : goal.returns-else-k-index
-returns-else-k-index c = let a = c.args in let k = c.in-Fit.k in let g = c.global_at-v in let y = c.global_needs_wrapper in 
+returns-else-k-index c = let a = c.args in let k = c.in-Fit.k in let g = c.global_at-v in let y = c.global_needs_wrapper in
     let d = stood a.sheet.now a.types.now a.globals.now a.o a.index c.in-Fit.k c.in-Fit.w c.in-Fit.is c.requires in
     wraps_answer a.sheet.now a.types.now a.globals.now a.o a.index c.in-Fit.k c.in-Fit.w c.in-Fit.is (omega (arith, c.if-g-ge-BOUND_MOST.false)) (omega (arith, c.if-k-index.false)) d.in_globals y.result
     (taken_wraps a.sheet.now a.types.now a.globals.now k.types a.index g.result.ty g.result y.result g.ensures (d.fits a.index (omega (arith, c.if-k-index.false))) refl y.ensures)

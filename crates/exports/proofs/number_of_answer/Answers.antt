@@ -3,7 +3,6 @@ use Rattle.exports.specs.Numbers.{answer_number}
 use Rattle.module_layout.specs.declared.Answer.{Answer}
 use Rattle.module_layout.specs.Finished.{answer_of}
 use mathlib.Core.Path.{sym, ap}
-use borrow.Author.Rules.{rules}
 use Rattle.exports.proofs.number_of_answer.Goals as goal
 
 pub returns-in-Written : goal.returns-in-Written

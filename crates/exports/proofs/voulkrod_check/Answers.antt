@@ -1,6 +1,5 @@
 -- The operation's promise, its answer as a number (`check_exported`).
 use Rattle.exports.proofs.Decoding.{check_exported}
-use borrow.Author.Rules.{rules}
 use Rattle.exports.proofs.voulkrod_check.Goals as goal
 
 pub returns : goal.returns

@@ -1,6 +1,5 @@
 -- The operation's promise, its answer as a number (`declare_exported`).
 use Rattle.exports.proofs.Decoding.{declare_exported}
-use borrow.Author.Rules.{rules}
 use Rattle.exports.proofs.voulkrod_declare.Goals as goal
 
 pub returns : goal.returns

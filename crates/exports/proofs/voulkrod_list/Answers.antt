@@ -1,13 +1,12 @@
 -- The operation's promise, its answer as a number (`list_exported`).
 use native.Mathlib.Omega.{arith}
 use Rattle.exports.proofs.Decoding.{length_fits, list_exported}
-use borrow.Author.Rules.{rules}
 use Rattle.exports.proofs.voulkrod_list.Goals as goal
 
 pub number_of_listing-requires : goal.number_of_listing-requires
 number_of_listing-requires c =
-    let a = c.args in 
-    let d = c.list in 
+    let a = c.args in
+    let d = c.list in
     length_fits a.words.now a.list.now d.result _ (omega arith) d.ensures
 
 pub returns : goal.returns

@@ -1,6 +1,5 @@
 -- The operation's promise, its answer as a number (`wrapped_exported`).
 use Rattle.exports.proofs.Decoding.{wrapped_exported}
-use borrow.Author.Rules.{rules}
 use Rattle.exports.proofs.voulkrod_wrapped.Goals as goal
 
 pub returns : goal.returns

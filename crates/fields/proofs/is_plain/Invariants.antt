@@ -1,16 +1,11 @@
 -- `fields::is_plain`: as long as all bytes were plain, what is left to read is judged as the whole is, by both tests. A byte from 1 to
 -- 127 leaves nothing to come of its character and is not 0, and at the end both tests pass.
 use Prim.Native.Nat.{◌≤◌, ◌-◌}
-use mathlib.Core.Bool.{true, false≢true}
+use mathlib.Core.Bool.{true}
 use mathlib.Core.List.{[]}
-use mathlib.Core.Logic.{⊎_elim}
-use mathlib.Core.Path.{◌≡◌, refl, sym, ◌∙◌}
-use native.Mathlib.Omega.{arith}
-use borrow.Author.Rules.{rules}
-use lib.ListN.{length, get_or, drop}
+use mathlib.Core.Path.{◌≡◌}
+use lib.ListN.{length, drop}
 use Rattle.definition.specs.Utf8.{octets, utf8, no_zero}
-use Rattle.fields.proofs.Octets.{goes_on, ends, zero_not, zero_end}
-use Rattle.fields.proofs.Rows.{alike}
 use Rattle.fields.proofs.is_plain.Given as goal
 
 abbrev pub invariant-loop-i : goal.invariant-loop-i

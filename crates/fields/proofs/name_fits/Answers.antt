@@ -6,7 +6,6 @@ use mathlib.Core.Bool.{Bool, true, ◌&&◌}
 use mathlib.Core.List.{List}
 use lib.ListN.{take, drop}
 use borrow.Author.Tests.{eq-eqb, ne_eqb}
-use borrow.Author.Rules.{rules}
 use Rattle.definition.specs.Bytes.{u8_at, name_at}
 use Rattle.definition.specs.Utf8.{utf8, no_zero, name_fits}
 use Rattle.fields.proofs.name_fits.Goals as goal
@@ -24,7 +23,7 @@ returns-then-n c = simp (← c.u8_at-n.ensures, eq-eqb _ _ c.if-n.true)
 -- a plain name passes both tests
 pub returns-then-is_plain : goal.returns-then-is_plain
 returns-then-is_plain c =
-    let a = c.args in 
+    let a = c.args in
     let passes = c.is_plain.ensures c.if-is_plain.true in
     judged a.s.now a.i c.u8_at-n.result c.part-name.result.now true true c.u8_at-n.ensures c.if-n.false c.part-name.ensures (sym passes.0) (sym passes.1)
 

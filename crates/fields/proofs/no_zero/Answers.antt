@@ -1,8 +1,5 @@
-use Prim.Native.Nat.{◌≤◌, ◌-◌}
-use mathlib.Core.Path.{◌≡◌, refl, ◌∙◌, sym}
+use mathlib.Core.Path.{refl, ◌∙◌, sym}
 use borrow.Author.Rules.{rules}
-use lib.ListN.{length, drop}
-use Rattle.definition.specs.Utf8.{no_zero}
 use Rattle.fields.proofs.Octets.{zero_here, zero_not, zero_end}
 use Rattle.fields.proofs.no_zero.Goals as goal
 
@@ -11,12 +8,10 @@ loop-i-init c = (search rules, refl)
 
 pub returns-then-s-i-eq0 : goal.returns-then-s-i-eq0
 returns-then-s-i-eq0 c =
-    
     sym (c.loop-i.invariant.1 ∙ zero_here _ _ c.loop-i-test.true c.if-s-i-eq0.true)
 
 pub loop-i-preserved : goal.loop-i-preserved
 loop-i-preserved c =
-    
     (search rules, c.loop-i.invariant.1 ∙ zero_not _ _ c.loop-i-test.true c.if-s-i-eq0.false)
 
 pub returns : goal.returns

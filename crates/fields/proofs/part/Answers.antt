@@ -1,7 +1,6 @@
 -- `fields::part`: one law of lists for each way out: past the end, within the slice, and clipped at its end.
 -- The rest is that the two places are in order and within the slice, which `search` does.
 use mathlib.Core.Path.{refl}
-use borrow.Author.Rules.{rules}
 use Rattle.fields.proofs.Parts.{part_in, part_clip, part_past}
 use Rattle.fields.proofs.part.Goals as goal
 
@@ -13,5 +12,5 @@ returns-then-n-s c = let a = c.args in part_in a.s.now a.i a.n
 
 pub returns-else-n-s : goal.returns-else-n-s
 returns-else-n-s c =
-    let a = c.args in 
+    let a = c.args in
     part_clip a.s.now a.i a.n _ refl c.if-n-s.false

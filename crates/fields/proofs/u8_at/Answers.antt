@@ -1,7 +1,6 @@
 -- `fields::u8_at`: within the slice the byte is read, as `search` sees;
 -- past its end the definition's byte is 0 too (`past_8`).
 use mathlib.Core.Path.{sym}
-use borrow.Author.Rules.{rules}
 use Rattle.fields.proofs.Numbers.{past_8}
 use Rattle.fields.proofs.u8_at.Goals as goal
 

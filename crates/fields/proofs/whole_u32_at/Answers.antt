@@ -2,7 +2,6 @@
 use Prim.Native.Nat.{ℕ, ◌+◌}
 use mathlib.Core.Path.{◌≡◌, ap}
 use native.Mathlib.Omega.{arith}
-use borrow.Author.Rules.{rules}
 use lib.ListN.{get_or}
 use Rattle.definition.specs.Bytes.{u16_at, u32_at}
 use Rattle.fields.proofs.whole_u32_at.Goals as goal
@@ -28,6 +27,6 @@ overflow_add-result-2 c = let i = c.args.i in omega (arith, c.type_inv.s i, c.ty
 pub returns : goal.returns
 unfolding u32_at u16_at
 returns c =
-    let a = c.args in 
+    let a = c.args in
     let e : a.i + 2 + 1 ≡ a.i + 3 = omega arith in
     omega (arith, ap (λ (j : ℕ). get_or a.s.now j 0) e)

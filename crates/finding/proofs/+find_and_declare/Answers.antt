@@ -1,8 +1,6 @@
 -- Room is handed down by what a shape names costing less than the shape (Prices), and each way out is one law of Ways.
-use Prim.Native.Nat.{◌+◌, ◌*◌}
 use mathlib.Core.Path.{◌≡◌, sym, ap, ◌∙◌, subst}
 use native.Mathlib.Omega.{arith}
-use borrow.Author.Rules.{rules}
 use Rattle.definition.specs.Shapes.{Key, rank}
 use Rattle.literals.specs.Forms.{literal_of}
 use Rattle.lookup.specs.declared.LookupType.{LookupType}
@@ -11,7 +9,7 @@ use Rattle.lookup.specs.Packed.{packed_key, Small}
 use Rattle.writer.specs.Held.{Room}
 use Rattle.finding.specs.Costs.{cost_of}
 use Rattle.finding.proofs.Prices.{inner_rank, inner_price, sized_rank, sized_price}
-use Rattle.finding.proofs.Ways.{type_old, type_absent, type_new, declared_bare, declared_inner, declared_sized, literal_old, literal_new}
+use Rattle.finding.proofs.Ways.{type_old, type_absent, type_new, declared_inner, declared_sized, literal_old, literal_new}
 use Rattle.finding.proofs.+find_and_declare.Goals as goal
 
 pub get_constant_scalar-get_type_id-f-requires : goal.get_constant_scalar-get_type_id-f-requires

@@ -1,7 +1,6 @@
 -- The two ways of Ways: an old null, or a new one.
 use Rattle.finding.proofs.Ways.{null_old, null_new}
 use native.Mathlib.Omega.{arith}
-use borrow.Author.Rules.{rules}
 use Rattle.finding.proofs.get_constant_null.Goals as goal
 
 pub enter_null-u-requires : goal.enter_null-u-requires
@@ -11,5 +10,5 @@ pub returns-in-Id : goal.returns-in-Id
 returns-in-Id c = let a = c.args in let x = c.find_null in null_old a.ty a.w a.tables.now a.sections.now x.result x.ensures c.in-Id.id c.in-Id.is
 
 pub returns-in-Absent : goal.returns-in-Absent
-returns-in-Absent c = let a = c.args in let x = c.find_null in let m = c.take_id-m in let d = c.constant_null-v in let u = c.enter_null-u in 
+returns-in-Absent c = let a = c.args in let x = c.find_null in let m = c.take_id-m in let d = c.constant_null-v in let u = c.enter_null-u in
     null_new a.ty a.w a.tables.now a.sections.now x.result x.ensures c.in-Absent.is m.result m.ensures d.result d.new.sections d.ensures u.result u.new.tables u.ensures

@@ -1,5 +1,4 @@
 -- An arm for each case of the enum: with it put in, the definition computes to the arm's scalar.
-use borrow.Author.Rules.{rules}
 use Rattle.definition.specs.Shapes.{kind_of}
 use Rattle.finding.proofs.literal_type.Goals as goal
 

@@ -5,7 +5,6 @@ use Rattle.definition.specs.Choice.{or_else}
 use mathlib.Core.Option.{Option}
 use Prim.Native.Nat.{ℕ}
 use mathlib.Core.Path.{sym, ap, ◌∙◌}
-use borrow.Author.Rules.{rules}
 use Rattle.finding.proofs.type_id.Goals as goal
 
 pub returns-in-Id : goal.returns-in-Id

@@ -1,7 +1,6 @@
 -- An arm for each case of the enum: two words, one word, or none for a Bool. With the case put in, the definition's instruction
 -- computes to the arm's.
 use native.Mathlib.Omega.{arith}
-use borrow.Author.Rules.{rules}
 use Rattle.finding.proofs.Literals.{put_as}
 use Rattle.finding.proofs.write_literal.Goals as goal
 

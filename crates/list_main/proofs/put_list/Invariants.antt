@@ -1,10 +1,8 @@
 -- `put_list`. The invariant (`Begun`): what stands in the text, then the text of the words that are left, is the whole (`more` is a
 -- turn, `done` the end). The measure is how many words are left.
 use Prim.Native.Nat.{◌-◌}
-use native.Mathlib.Omega.{arith}
 use lib.ListN.{length}
-use borrow.Author.Rules.{rules}
-use Rattle.list_main.proofs.Lines.{Begun, start, more, done}
+use Rattle.list_main.proofs.Lines.{Begun}
 use Rattle.list_main.proofs.put_list.Given as goal
 
 abbrev pub invariant-loop-i : goal.invariant-loop-i

@@ -4,7 +4,6 @@ use mathlib.Core.Path.{sym, subst}
 use native.Mathlib.Omega.{arith}
 use lib.ListN.{length}
 use lib.Seq.{length-take-le}
-use borrow.Author.Rules.{rules}
 use Rattle.listing.specs.declared.Listing.{Listing}
 use Rattle.listing.specs.Promise.{relisted_as}
 use Rattle.list_main.specs.Answers.{ListWithin}
@@ -12,17 +11,17 @@ use Rattle.list_main.proofs.put_listing.Goals as goal
 
 pub slice_bounds-put_list-end : goal.slice_bounds-put_list-end
 slice_bounds-put_list-end c =
-    let l = c.args.list.now in 
-    let a = c.in-Listed.given in 
-    let h : a.0.0 ≤ length l = subst (λ (t : Listing). ListWithin (relisted_as t l).answer l) a.1 c.requires.0 in
-    sym (length-take-le a.0.0 l h)
+    let l = c.args.list.now in
+    let a = c.in-Listed in
+    let h : a.n ≤ length l = subst (λ (t : Listing). ListWithin (relisted_as t l).answer l) a.is c.requires.0 in
+    sym (length-take-le a.n l h)
 
 pub put_list-requires : goal.put_list-requires
 put_list-requires c =
-    let l = c.args.list.now in 
-    let a = c.in-Listed.given in 
-    let h : a.0.0 ≤ length l = subst (λ (t : Listing). ListWithin (relisted_as t l).answer l) a.1 c.requires.0 in
-    omega (arith, length-take-le a.0.0 l h, c.requires.1)
+    let l = c.args.list.now in
+    let a = c.in-Listed in
+    let h : a.n ≤ length l = subst (λ (t : Listing). ListWithin (relisted_as t l).answer l) a.is c.requires.0 in
+    omega (arith, length-take-le a.n l h, c.requires.1)
 
 pub returns-in-Listed : goal.returns-in-Listed
 returns-in-Listed c = rw c.in-Listed.is c.put_list.ensures

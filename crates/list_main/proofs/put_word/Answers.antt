@@ -4,7 +4,6 @@ use mathlib.Core.List.{List, [], ◌∷◌, ◌++◌}
 use mathlib.Core.Path.{sym, ap, ◌∙◌}
 use lib.ListN.{set}
 use lib.Seq.{sets}
-use borrow.Author.Rules.{rules}
 use Rattle.printing.specs.Text.{digits}
 use Rattle.printing.proofs.Lines.{digits-length}
 use Rattle.printing.proofs.Runs.{behind}
@@ -12,8 +11,8 @@ use Rattle.list_main.proofs.put_word.Goals as goal
 
 pub returns : goal.returns
 returns c =
-    let a = c.args in 
-    let e = c.ending_of in 
+    let a = c.args in
+    let e = c.ending_of in
     let l = ap (λ (j : ℕ). a.at + j) (sym (digits-length 16 8 a.w)) in
     ap (λ (z : List ℕ). set z (a.at + 8) e.result) c.put_digits.ensures
     ∙ behind a.text.now a.at (a.at + 8) (digits 16 8 a.w) e.result l

@@ -1,11 +1,9 @@
 -- `read_binary`. The invariant (`BinaryBegun`): the words stored, before what is left is read as, are the whole. The measure is how
 -- many bytes are left.
 use Prim.Native.Nat.{◌-◌}
-use mathlib.Core.Path.{◌≡◌, refl, ◌∙◌}
-use native.Mathlib.Omega.{arith}
-use lib.ListN.{length, length-set}
-use borrow.Author.Rules.{rules}
-use Rattle.list_main.proofs.Reading.{BinaryBegun, binary_start, next_word, binary_read, binary_cut}
+use mathlib.Core.Path.{◌≡◌}
+use lib.ListN.{length}
+use Rattle.list_main.proofs.Reading.{BinaryBegun}
 use Rattle.list_main.proofs.read_binary.Given as goal
 
 abbrev pub invariant-loop-i : goal.invariant-loop-i

@@ -1,11 +1,9 @@
 -- `read_text`. The invariant (`TextBegun`): the words stored, before what is left is read as, are the whole. The measure is how many
 -- bytes are left. A turn and each way out is one law of Reading.
 use Prim.Native.Nat.{◌-◌}
-use mathlib.Core.Path.{◌≡◌, refl, ◌∙◌}
-use native.Mathlib.Omega.{arith}
-use lib.ListN.{length, length-set}
-use borrow.Author.Rules.{rules}
-use Rattle.list_main.proofs.Reading.{TextBegun, text_start, text_read, text_cut, next_line, no_line, next_digit, digit_fits, no_digit}
+use mathlib.Core.Path.{◌≡◌}
+use lib.ListN.{length}
+use Rattle.list_main.proofs.Reading.{TextBegun}
 use Rattle.list_main.proofs.read_text.Given as goal
 
 abbrev pub invariant-loop-i : goal.invariant-loop-i

@@ -3,7 +3,6 @@ use Prim.Native.Nat.{ℕ}
 use mathlib.Core.Path.{sym, subst, ◌∙◌}
 use mathlib.Core.List.{List}
 use mathlib.Core.Option.{Option}
-use borrow.Author.Rules.{rules}
 use Rattle.list_main.specs.Words.{WordsRead}
 use Rattle.list_main.proofs.Laws.{long_binary, short_binary, long_text, short_text}
 use Rattle.list_main.proofs.read_words.Goals as goal
@@ -15,7 +14,7 @@ returns-then-input c =
 
 pub returns-then-is_binary : goal.returns-then-is_binary
 returns-then-is_binary c =
-    let r = c.read_binary in 
+    let r = c.read_binary in
     let e = sym c.is_binary.ensures ∙ c.if-is_binary.true in
     let q = short_binary c.args.input.now e c.if-input.false in
     subst (λ (o : Option (List ℕ)). WordsRead o r.result r.new.words) (sym q) r.ensures
@@ -27,7 +26,7 @@ returns-then-input-2 c =
 
 pub returns : goal.returns
 returns c =
-    let r = c.read_text in 
+    let r = c.read_text in
     let e = sym c.is_binary.ensures ∙ c.if-is_binary.false in
     let q = short_text c.args.input.now e c.if-input-2.false in
     subst (λ (o : Option (List ℕ)). WordsRead o r.result r.new.words) (sym q) r.ensures

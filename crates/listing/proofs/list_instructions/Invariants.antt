@@ -1,11 +1,8 @@
 -- The invariant is `Walking`, and each way through a turn is a law of `Walks`. The table of forms is computed whole and is the
 -- definition's (`form-of-requires`). The measure is how many words are left.
 use Prim.Native.Nat.{◌-◌}
-use mathlib.Core.Path.{refl, sym, ◌∙◌}
-use native.Mathlib.Omega.{arith}
-use borrow.Author.Rules.{rules}
 use lib.ListN.{length}
-use Rattle.listing.proofs.Walks.{op_at, Walking, walking_start, walking_more, walking_all, walking_refused, some_words, ends_inside, body_listed}
+use Rattle.listing.proofs.Walks.{Walking}
 use Rattle.listing.proofs.list_instructions.Given as goal
 
 abbrev pub invariant-loop-at : goal.invariant-loop-at

@@ -2,7 +2,6 @@
 use mathlib.Core.Path.{subst}
 use mathlib.Core.List.{List, ◌∷◌}
 use Prim.Native.Nat.{ℕ}
-use borrow.Author.Rules.{rules}
 use lib.ListN.{get_or}
 use Rattle.spirv.specs.Put.{Put}
 use Rattle.listing.proofs.OneList.{rest_of}
@@ -10,7 +9,7 @@ use Rattle.listing.proofs.put_type.Goals as goal
 
 pub returns : goal.returns
 returns c =
-    let a = c.args in 
+    let a = c.args in
     let b = a.body.now in
-    let p = c.put_both in 
+    let p = c.put_both in
     subst (λ (l : List ℕ). Put (a.op ∷ get_or b 0 0 ∷ l) a.left.now p.new.left p.result) (rest_of 1 b) p.ensures

@@ -2,7 +2,6 @@
 use Prim.Native.Nat.{ℕ}
 use mathlib.Core.List.{List}
 use mathlib.Core.Path.{sym, subst}
-use borrow.Author.Rules.{rules}
 use lib.Seq.{length-take-le}
 use Rattle.listing.specs.Lists.{Walked}
 use Rattle.listing.proofs.put_whole.Goals as goal
@@ -12,6 +11,6 @@ slice_bounds-put_words-end c = sym (length-take-le 5 c.args.words.now c.requires
 
 pub returns : goal.returns
 returns c =
-    let a = c.args in 
-    let l = c.list_instructions in 
+    let a = c.args in
+    let l = c.list_instructions in
     subst (λ (b : List ℕ). Walked a.words.now b l.result l.new.out) c.put_words.ensures.words l.ensures

@@ -1,6 +1,5 @@
 -- `literals::i32_of_bits`: the number is handed on by its bits, and the bits of the number whose bits are n are n.
 use mathlib.Core.Path.{ap}
-use borrow.Author.Rules.{rules}
 use Rattle.definition.specs.Literals.{i32}
 use Rattle.literals.proofs.Signed.{bits_back}
 use Rattle.literals.proofs.i32_of_bits.Goals as goal

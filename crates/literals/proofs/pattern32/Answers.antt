@@ -1,7 +1,6 @@
 -- `literals::pattern32`: a float that is equal to itself is no NaN, so to_bits is defined;
 -- any other is the one NaN, whose pattern the code writes out.
 use lib.Ieee.{binary32, to_bits}
-use borrow.Author.Rules.{rules}
 use Rattle.literals.proofs.Patterns.{is_number, nan_pattern}
 use Rattle.literals.proofs.pattern32.Goals as goal
 

@@ -2,7 +2,6 @@
 -- ensure, and in the others it has none.
 use Prim.Native.Nat.{ℕ, ◌/◌}
 use mathlib.Core.Path.{ap, ◌∙◌}
-use borrow.Author.Rules.{rules}
 use Rattle.literals.proofs.second_word.Goals as goal
 
 pub returns-in-F64 : goal.returns-in-F64

@@ -1,6 +1,5 @@
 -- `literals::signed_of`: below 2^31 the bits are the number; from there on the laws of bits less 2^32, one a step of the
 -- code: the difference fits 64 bits, then 32, and is the number.
-use borrow.Author.Rules.{rules}
 use Rattle.literals.proofs.Signed.{less_fits, narrows, number_of}
 use Rattle.literals.proofs.signed_of.Goals as goal
 

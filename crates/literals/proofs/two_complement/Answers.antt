@@ -1,6 +1,5 @@
 -- `literals::two_complement`: the laws of a number and 2^32, one a step of the code: it can be widened, the sum fits,
 -- is not negative, and modulo 2^32 is the number's bits.
-use borrow.Author.Rules.{rules}
 use Rattle.literals.proofs.Signed.{widens, sum_fits, not_negative, bits_of}
 use Rattle.literals.proofs.two_complement.Goals as goal
 

@@ -1,6 +1,5 @@
 -- A class fits a byte, so that the cast keeps it.
 use native.Mathlib.Omega.{arith}
-use borrow.Author.Rules.{rules}
 use Rattle.locals.proofs.Classes.{class_small}
 use Rattle.locals.proofs.class_byte.Goals as goal
 

@@ -1,5 +1,4 @@
 -- Each arm is told its dimension, and at that dimension the definition's choice computes to the arm's number.
-use borrow.Author.Rules.{rules}
 use Rattle.locals.proofs.dim_byte.Goals as goal
 
 pub returns-in-D1 : goal.returns-in-D1

@@ -1,5 +1,4 @@
 -- Below 40 the code is read from the table, which is the specification's, and from there on it is Unknown's.
-use borrow.Author.Rules.{rules}
 use Rattle.definition.specs.Shapes.{formats}
 use Rattle.locals.specs.Made.{codes}
 use Rattle.locals.proofs.Formats.{code_in, code_out}

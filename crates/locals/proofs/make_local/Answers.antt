@@ -3,7 +3,6 @@
 -- size, an image's operands.
 use mathlib.Core.Option.{some}
 use mathlib.Core.Path.{ap}
-use borrow.Author.Rules.{rules}
 use Rattle.locals.proofs.make_local.Goals as goal
 
 pub returns-in-Scalar : goal.returns-in-Scalar

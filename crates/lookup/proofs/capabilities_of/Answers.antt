@@ -1,6 +1,5 @@
 -- `capabilities_of` meets its contract. Each arm is told its shape (`enum_told`, and `enum_known` where the arm reads a field of
 -- it); with that put in, `capabilities_of` computes to the arm's numbers, or, of a scalar and an image, to what the callees promise.
-use borrow.Author.Rules.{rules}
 use Rattle.lookup.proofs.capabilities_of.Goals as goal
 
 pub returns-in-Nothing-size : goal.returns-in-Nothing-size

@@ -3,7 +3,6 @@
 -- its class is the shape pointed to, whatever the size.
 use mathlib.Core.Path.{ap}
 use mathlib.Core.Option.{some}
-use borrow.Author.Rules.{rules}
 use Rattle.definition.specs.Shapes.{Shape, shape, kind_of}
 use Rattle.kinds.specs.Numbers.{kind_number}
 use Rattle.lookup.proofs.Values.{pointed}

@@ -1,5 +1,4 @@
 -- An entry's key and a shape's: what was matched is put into the goal, and the callee's promise is the rest.
-use borrow.Author.Rules.{rules}
 use Rattle.lookup.proofs.key.Goals as goal
 
 pub returns-in-Handle : goal.returns-in-Handle

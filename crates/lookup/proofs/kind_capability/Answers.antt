@@ -1,6 +1,5 @@
 -- `kind_capability` meets its contract. Each arm is told its kind; at that kind `kind_capabilities` computes to what the function
 -- that the arm calls promises.
-use borrow.Author.Rules.{rules}
 use Rattle.definition.specs.Shapes.{kind_of}
 use Rattle.lookup.proofs.kind_capability.Goals as goal
 

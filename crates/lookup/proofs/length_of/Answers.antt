@@ -1,6 +1,5 @@
 -- `length_of` meets its contract. Each arm is told its shape (`enum_told`, and `enum_known` where the arm reads a field of it); a
 -- value's, its class and its size too. With these put in, `sized` computes to the arm's answer.
-use borrow.Author.Rules.{rules}
 use Rattle.lookup.proofs.length_of.Goals as goal
 
 pub returns-in-Nothing-size : goal.returns-in-Nothing-size

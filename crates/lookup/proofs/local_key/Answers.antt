@@ -3,7 +3,6 @@
 -- and `value_small` take it there.
 use Prim.Native.Nat.{ℕ}
 use mathlib.Core.Path.{subst, refl, ap, ◌∙◌}
-use borrow.Author.Rules.{rules}
 use Rattle.definition.specs.Shapes.{kind_of}
 use Rattle.kinds.specs.Numbers.{kind_number}
 use Rattle.lookup.specs.Local.{SmallValue, value_key}

@@ -1,6 +1,5 @@
 -- `put_scalar` meets its contract. Each arm is told its kind; at that kind `type_of` computes to the instruction that the callee
 -- promises to put.
-use borrow.Author.Rules.{rules}
 use Rattle.definition.specs.Shapes.{kind_of}
 use Rattle.lookup.proofs.put_scalar.Goals as goal
 

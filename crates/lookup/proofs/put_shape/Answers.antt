@@ -1,7 +1,6 @@
 -- `put_shape` meets its contract. Each arm is told its shape (`enum_told`, and `enum_known` where the arm reads a field of it); with
 -- that put in, `type_of` computes to the instruction that the callee promises to put. An image's operands are read from a struct, so
 -- each is what was read (`struct_known`); the class of a pointer to a binding array is what `map_storage_class` promises.
-use borrow.Author.Rules.{rules}
 use Rattle.lookup.proofs.put_shape.Goals as goal
 
 pub returns-in-Nothing-size : goal.returns-in-Nothing-size

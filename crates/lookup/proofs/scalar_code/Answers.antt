@@ -1,7 +1,6 @@
 -- `scalar_code` meets its contract. Each arm is told its kind; at that kind `code` computes to the arm's sum, and a byte's four
 -- times is below 1024.
 use native.Mathlib.Omega.{arith}
-use borrow.Author.Rules.{rules}
 use Rattle.definition.specs.Shapes.{kind_of}
 use Rattle.lookup.proofs.scalar_code.Goals as goal
 

@@ -1,6 +1,5 @@
 -- `value_key` meets its contract. The four arms are told class and size; with both put in, `value_key` and `SmallValue` compute to
 -- what `bytes_key` promises.
-use borrow.Author.Rules.{rules}
 use Rattle.lookup.proofs.value_key.Goals as goal
 
 pub returns-in-Nothing-size : goal.returns-in-Nothing-size

@@ -1,8 +1,6 @@
 use borrow.Author.Rules.{rules}
 use native.Mathlib.Omega.{arith}
-use Prim.Native.Nat.{◌-◌}
-use lib.ListN.{length}
-use Rattle.module_layout.proofs.Capabilities.{Listing, listing_start, listing_more, listing_all}
+use Rattle.module_layout.proofs.Capabilities.{listing_start, listing_more, listing_all}
 use Rattle.module_layout.proofs.put_capabilities.Goals as goal
 
 pub loop-i-init : goal.loop-i-init
@@ -13,12 +11,12 @@ slice_bounds-capability-count c = omega (arith, c.loop-i.invariant.place, c.loop
 
 pub loop-i-preserved : goal.loop-i-preserved
 loop-i-preserved c =
-    let a = c.args in 
-    let l = c.loop-i in 
+    let a = c.args in
+    let l = c.loop-i in
     listing_more a.numbers.now a.out.now l.i l.out l.at l.invariant _ _ c.loop-i-test.true c.requires c.capability.ensures
 
 pub returns : goal.returns
 returns c =
-    let a = c.args in 
-    let l = c.loop-i in 
+    let a = c.args in
+    let l = c.loop-i in
     listing_all a.numbers.now a.out.now l.i l.out l.at l.invariant c.loop-i-test.false

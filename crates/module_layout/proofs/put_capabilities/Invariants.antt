@@ -1,9 +1,7 @@
 -- The invariant: the first i instructions stand at the front. The measure is how many numbers are left.
-use borrow.Author.Rules.{rules}
-use native.Mathlib.Omega.{arith}
 use Prim.Native.Nat.{◌-◌}
 use lib.ListN.{length}
-use Rattle.module_layout.proofs.Capabilities.{Listing, listing_start, listing_more, listing_all}
+use Rattle.module_layout.proofs.Capabilities.{Listing}
 use Rattle.module_layout.proofs.put_capabilities.Given as goal
 
 abbrev pub invariant-loop-i : goal.invariant-loop-i

@@ -2,7 +2,7 @@
 -- length, what they were lent came back as long as it was (`placed`), and the counts add up to no more than the buffer has.
 use mathlib.Core.Path.{sym}
 use native.Mathlib.Omega.{arith}
-use Rattle.module_layout.proofs.Modules.{listed, placed, placed_2, placed_3, all_back, module_put}
+use Rattle.module_layout.proofs.Modules.{listed, placed, placed_2, placed_3, module_put}
 use Rattle.module_layout.proofs.put_module.Goals as goal
 
 pub slice_bounds-put_front-end : goal.slice_bounds-put_front-end
@@ -58,5 +58,5 @@ overflow_add-result c = let p = placed_3 c.args.w c.args.sections.now c.args.out
 
 pub returns : goal.returns
 returns c =
-    let e = c.args in 
+    let e = c.args in
     module_put e.w e.sections.now e.bound e.out.now c.requires.0.room c.requires.1 _ _ _ _ _ _ _ _ c.put_front-first.ensures c.put_section.ensures c.put_section-2.ensures c.put_section-3.ensures

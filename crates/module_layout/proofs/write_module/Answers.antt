@@ -2,18 +2,17 @@
 use mathlib.Core.Path.{refl}
 use native.Mathlib.Omega.{arith}
 use Rattle.module_layout.proofs.Modules.{passes, short, written}
-use borrow.Author.Rules.{rules}
 use Rattle.module_layout.proofs.write_module.Goals as goal
 
 pub returns-then-g-ge-BOUND_MOST : goal.returns-then-g-ge-BOUND_MOST
 returns-then-g-ge-BOUND_MOST c =
-    let a = c.args in 
+    let a = c.args in
     passes a.w a.sections.now a.out.now (omega (arith, c.if-g-ge-BOUND_MOST.true))
 
 pub returns-then-out-n : goal.returns-then-out-n
-returns-then-out-n c = 
+returns-then-out-n c =
     short c.args.w c.args.sections.now c.args.out.now (omega (arith, c.if-g-ge-BOUND_MOST.false)) c.requires.room (omega (arith, c.if-out-n.true, c.module_count-n.ensures))
 
 pub returns : goal.returns
-returns c = 
+returns c =
     written c.args.w c.args.sections.now c.args.out.now (omega (arith, c.if-g-ge-BOUND_MOST.false)) c.requires.room _ _ _ _ refl c.module_count-n.ensures c.if-out-n.false c.requires.few c.put_module.ensures

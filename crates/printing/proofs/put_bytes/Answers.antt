@@ -1,17 +1,16 @@
-use Prim.Native.Nat.{◌+◌, ℕ, ◌-◌, ◌≤◌}
+use Prim.Native.Nat.{◌+◌, ℕ}
 use mathlib.Core.List.{List}
 use mathlib.Core.Path.{◌≡◌, ap, ◌∙◌}
 use native.Mathlib.Omega.{arith}
-use lib.ListN.{set, get_or, length-set, length, take}
+use lib.ListN.{set, get_or, length-set, length}
 use lib.Seq.{take_all, sets}
-use borrow.Author.Rules.{rules}
 use Rattle.printing.proofs.Runs.{copied}
 use Rattle.printing.proofs.put_bytes.Goals as goal
 
 pub loop-i-preserved : goal.loop-i-preserved
 loop-i-preserved c =
-    let l = c.loop-i in 
-    let a = c.args in 
+    let l = c.loop-i in
+    let a = c.args in
     let b = get_or a.bytes.now l.i 0 in (
       omega arith,
       length-set l.text (a.at + l.i) b ∙ l.invariant.1,
@@ -20,7 +19,7 @@ loop-i-preserved c =
 
 pub returns : goal.returns
 returns c =
-    let l = c.loop-i in 
-    let a = c.args in 
+    let l = c.loop-i in
+    let a = c.args in
     let e : l.i ≡ length a.bytes.now = omega arith in
     record { text = l.invariant.2 ∙ ap (sets a.text.now a.at) (take_all l.i a.bytes.now (omega arith)); next = omega arith }

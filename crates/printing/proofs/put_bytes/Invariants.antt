@@ -1,12 +1,8 @@
 -- `put_bytes`. The invariant: the first i bytes stand behind the place (`copied` is a turn). The measure is how many are left.
-use Prim.Native.Nat.{◌+◌, ℕ, ◌-◌, ◌≤◌}
-use mathlib.Core.List.{List}
-use mathlib.Core.Path.{◌≡◌, ap, ◌∙◌}
-use native.Mathlib.Omega.{arith}
-use lib.ListN.{set, get_or, length-set, length, take}
-use lib.Seq.{take_all, sets}
-use borrow.Author.Rules.{rules}
-use Rattle.printing.proofs.Runs.{copied}
+use Prim.Native.Nat.{◌-◌, ◌≤◌}
+use mathlib.Core.Path.{◌≡◌}
+use lib.ListN.{length, take}
+use lib.Seq.{sets}
 use Rattle.printing.proofs.put_bytes.Given as goal
 
 abbrev pub invariant-loop-i : goal.invariant-loop-i

@@ -1,13 +1,9 @@
 -- `put_digits`. The invariant: with the digits of the rest put as well, the text is what it is to be in the end (`one_digit` is a
 -- turn). The measure is how many digits are left.
-use Prim.Native.Nat.{ℕ, suc, ◌+◌, ◌/◌, ◌-◌, ◌≤◌}
-use mathlib.Core.Path.{◌≡◌, ap, ◌∙◌}
-use native.Mathlib.Nat.{mod-lt}
-use native.Mathlib.Omega.{arith}
-use lib.ListN.{set, length-set, length}
+use Prim.Native.Nat.{◌≤◌}
+use mathlib.Core.Path.{◌≡◌}
+use lib.ListN.{length}
 use lib.Seq.{sets}
-use borrow.Author.Rules.{rules}
-use Rattle.printing.proofs.Lines.{one_digit}
 use Rattle.printing.specs.Text.{digits}
 use Rattle.printing.proofs.put_digits.Given as goal
 

@@ -1,10 +1,9 @@
-use Prim.Native.Nat.{ℕ, ◌-◌, ◌*◌, ◌≤◌}
-use mathlib.Core.Path.{◌≡◌, refl, ap, ◌∙◌}
+use Prim.Native.Nat.{ℕ, ◌*◌}
+use mathlib.Core.Path.{refl, ap, ◌∙◌}
 use mathlib.Core.List.{List}
 use native.Mathlib.Omega.{arith}
-use lib.ListN.{length, take, get_or}
+use lib.ListN.{length, get_or}
 use lib.Seq.{sets, length-sets}
-use borrow.Author.Rules.{rules}
 use Rattle.printing.proofs.Lines.{one_line, all_lines}
 use Rattle.printing.specs.Text.{lines_of, line_of}
 use Rattle.printing.proofs.put_lines.Goals as goal
@@ -14,9 +13,9 @@ unfolding lines_of
 loop-i-init c = (omega arith, refl, refl)
 
 pub loop-i-preserved : goal.loop-i-preserved
-loop-i-preserved c = 
-    let l = c.loop-i in 
-    let a = c.args in 
+loop-i-preserved c =
+    let l = c.loop-i in
+    let a = c.args in
     let w = get_or a.words.now l.i 0 in (
       omega arith,
       c.put_line.ensures
@@ -27,6 +26,6 @@ loop-i-preserved c =
 
 pub returns : goal.returns
 returns c =
-    let l = c.loop-i in 
-    let a = c.args in 
+    let l = c.loop-i in
+    let a = c.args in
     record { printed = all_lines a.text.now a.words.now l.text l.i a.n l.invariant.1 (omega arith) (omega arith) (omega arith); value = refl }

@@ -1,5 +1,4 @@
--- `put_answer`: either word's bytes are the definition's line.
-use borrow.Author.Rules.{rules}
+-- `put_yes_or_no`: either word's bytes are the definition's line.
 use Rattle.printing.proofs.put_yes_or_no.Goals as goal
 
 pub returns-then-yes : goal.returns-then-yes

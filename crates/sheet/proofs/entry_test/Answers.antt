@@ -1,7 +1,6 @@
 -- Tests 8 to 11 come first, then test 12 (`fields_first`); the counts that test 11 looks at are those of what was read. At each
 -- return those before it let the chain go on, and the last stops it.
 use mathlib.Core.Path.{refl}
-use borrow.Author.Rules.{rules}
 use Rattle.records.proofs.Chain.{first_stop, first_go, stop_not, go_not}
 use Rattle.sheet.proofs.Order.{fields_first}
 use Rattle.sheet.proofs.entry_test.Goals as goal

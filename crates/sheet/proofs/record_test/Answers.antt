@@ -2,7 +2,6 @@
 use Prim.Native.Nat.{ℕ}
 use mathlib.Core.Path.{◌∙◌, ap, ap₂}
 use mathlib.Core.List.{List}
-use borrow.Author.Rules.{rules}
 use Rattle.definition.specs.Tests.{reading_test, place_test, entry_test}
 use Rattle.definition.specs.Sheet.{entry_of}
 use Rattle.records.proofs.Chain.{first_stop, first_go}

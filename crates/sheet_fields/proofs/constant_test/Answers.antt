@@ -1,7 +1,6 @@
 -- A chain of four tests, a literal's form first: at each return those before it let the chain go on, and the last stops it. There
 -- is no name, so that the definition's test of the names computes.
 use mathlib.Core.Path.{refl}
-use borrow.Author.Rules.{rules}
 use Rattle.records.proofs.Chain.{stop, go, stop_ne, go_eq}
 use Rattle.sheet_fields.proofs.constant_test.Goals as goal
 

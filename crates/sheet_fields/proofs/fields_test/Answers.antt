@@ -3,7 +3,6 @@
 use mathlib.Core.Path.{◌∙◌}
 use native.Mathlib.Omega.{arith}
 use borrow.Author.Tests.{ne_eqb}
-use borrow.Author.Rules.{rules}
 use Rattle.definition.specs.Sheet.{entry_of}
 use Rattle.sheet_fields.specs.Fields.{fields_test}
 use Rattle.sheet_fields.proofs.Laws.{no_form}
@@ -45,6 +44,6 @@ returns-in-6 c =
 
 pub returns-in_default : goal.returns-in_default
 unfolding fields_test entry_of
-returns-in_default c = 
+returns-in_default c =
     let f = no_form c.args.tag c.args.body.now (λ z. c.in_default.in_default-own.rest.0.1 (c.rank_of.ensures ∙ z)) in
     simp (← c.rank_of.ensures, ne_eqb _ _ c.in_default.in_default-own.rest.0.0.0.0.0.1, ne_eqb _ _ c.in_default.in_default-own.rest.0.0.0.0.1, ne_eqb _ _ c.in_default.in_default-own.rest.0.0.0.1, ne_eqb _ _ c.in_default.in_default-own.rest.0.0.1, ne_eqb _ _ c.in_default.in_default-own.rest.0.1, f) c.global_test-in_default.ensures

@@ -1,6 +1,5 @@
 -- A literal's form, and no other tag's.
 use borrow.Author.Tests.{ne_eqb}
-use borrow.Author.Rules.{rules}
 use Rattle.sheet_fields.proofs.form_known.Goals as goal
 
 pub returns-in-64 : goal.returns-in-64

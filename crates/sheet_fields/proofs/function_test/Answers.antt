@@ -2,7 +2,6 @@
 -- constant named, so that the definition's tests of those compute.
 use mathlib.Core.Path.{refl}
 use mathlib.Core.Bool.{and-true}
-use borrow.Author.Rules.{rules}
 use Rattle.records.proofs.Chain.{stop, go, stop_ne, go_eq}
 use Rattle.sheet_fields.proofs.function_test.Goals as goal
 

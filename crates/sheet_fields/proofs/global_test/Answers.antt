@@ -1,7 +1,6 @@
 -- Where the name ends is what was found, and a global has one name. Then a chain of four tests: at each return those before it
 -- let the chain go on, and the last stops it.
 use mathlib.Core.Path.{refl}
-use borrow.Author.Rules.{rules}
 use mathlib.Core.Bool.{and-true}
 use Rattle.definition.specs.Sheet.{global_fields}
 use Rattle.records.proofs.Chain.{stop, go, stop_ne, go_eq}

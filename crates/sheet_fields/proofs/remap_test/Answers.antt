@@ -1,7 +1,6 @@
 -- A chain of two tests, of the end and of the size. There is no name and no reference, so that the definition's tests of
 -- those compute.
 use mathlib.Core.Path.{refl}
-use borrow.Author.Rules.{rules}
 use Rattle.definition.specs.Sheet.{remap_fields}
 use Rattle.records.proofs.Chain.{stop_ne, go_eq, go_pos}
 use Rattle.sheet_fields.proofs.remap_test.Goals as goal

@@ -2,7 +2,6 @@
 -- that of the references one of types and one of no constants (`unless_both`). Then a chain of five tests: at each return those
 -- before it let the chain go on, and the last stops it.
 use mathlib.Core.Path.{refl}
-use borrow.Author.Rules.{rules}
 use Rattle.records.proofs.Chain.{stop, go, stop_ne, go_eq}
 use Rattle.sheet_fields.proofs.Laws.{unless_both}
 use Rattle.sheet_fields.proofs.type_test.Goals as goal

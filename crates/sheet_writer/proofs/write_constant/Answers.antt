@@ -15,23 +15,23 @@ use Rattle.sheet_writer.proofs.write_constant.Goals as goal
 
 pub expression_fits-requires : goal.expression_fits-requires
 expression_fits-requires c =
-    let a = c.args in 
-    let p = c.requires in 
+    let a = c.args in
+    let p = c.requires in
     let q = is_taken a.n (record_of a.tag a.body.now) p.1.0 c.expression_of-expr.result c.expression_of-expr.ensures in
     (p.0, (subst (λ (x : Expression). below a.n (expression_types x) ≡ true) (sym q) p.1.0.types, (omega (arith, p.1.1.0.rows), p.1.1.1)))
 
 pub returns-then-not-expression_fits : goal.returns-then-not-expression_fits
 returns-then-not-expression_fits c =
-    let a = c.args in 
-    let f = c.expression_fits in 
+    let a = c.args in
+    let f = c.expression_fits in
     let q = is_taken a.n (record_of a.tag a.body.now) c.requires.1.0 c.expression_of-expr.result c.expression_of-expr.ensures in
     let t = subst (λ (x : Expression). TestsConstant (types_from a.s.now a.types.now a.n) x a.w a.tables.now f.result) q f.ensures.0 in
     (record { told = λ S x h. stop _ _ 13 0 (t S x h) (ap not c.if-not-expression_fits.true); written = λ z. absurd (omega (arith, z)) }, f.ensures.1)
 
 pub write_constant_expr-v-requires : goal.write_constant_expr-v-requires
 write_constant_expr-v-requires c =
-    let a = c.args in 
-    let p = c.requires in 
+    let a = c.args in
+    let p = c.requires in
     let r = record_of a.tag a.body.now in
     let q = is_taken a.n r p.1.0 c.expression_of-expr.result c.expression_of-expr.ensures in (
       p.0,
@@ -43,10 +43,10 @@ write_constant_expr-v-requires c =
 
 pub returns : goal.returns
 returns c =
-    let a = c.args in 
+    let a = c.args in
     let r = record_of a.tag a.body.now in
-    let f = c.expression_fits in 
-    let x = c.write_constant_expr-v in 
+    let f = c.expression_fits in
+    let x = c.write_constant_expr-v in
     let ts = types_from a.s.now a.types.now a.n in
     let q = is_taken a.n r c.requires.1.0 c.expression_of-expr.result c.expression_of-expr.ensures in
     let t = subst (λ (y : Expression). TestsConstant ts y a.w a.tables.now f.result) q f.ensures.0 in (

@@ -14,22 +14,22 @@ pub returns-then-h-ne0 : goal.returns-then-h-ne0
 returns-then-h-ne0 c = judge_stop _ _ _ c.header_test-h.ensures c.if-h-ne0.true
 
 pub loop-at-init : goal.loop-at-init
-loop-at-init c = let a = c.args in 
+loop-at-init c = let a = c.args in
     begins a.sheet.now a.tables.now a.sections.now a.memo.now (places_of a.remaps.now a.types.now a.constants.now a.globals.now) a.nrecords a.nbytes c.u32_at.result c.nothing-k.result c.everything-available.result c.new-w.result
     (sym c.header_test-h.ensures ∙ c.if-h-ne0.false) c.requires.1 c.requires.0.memo c.nothing-k.ensures c.everything-available.ensures c.u32_at.ensures (omega arith) c.new-w.ensures.0 (c.new-w.ensures.1 a.tables.now a.sections.now)
 
 pub returns-then-no_record : goal.returns-then-no_record
-returns-then-no_record c = let a = c.args in let l = c.loop-at in 
+returns-then-no_record c = let a = c.args in let l = c.loop-at in
     four a.sheet.now a.tables.now a.sections.now a.memo.now (places_of a.remaps.now a.types.now a.constants.now a.globals.now) a.nrecords a.nbytes l.tables l.sections l.memo (places_of l.remaps l.types l.constants l.globals) l.at l.k l.available l.w l.invariant c.requires.0 (sym c.header_test-h.ensures ∙ c.if-h-ne0.false)
     c.loop-at-test.true c.rest_at-rest.result.now c.rest_at-rest.ensures (sym c.no_record.ensures ∙ c.if-no_record.true)
 
 pub write_record-t-requires : goal.write_record-t-requires
-write_record-t-requires c = let a = c.args in let l = c.loop-at in 
+write_record-t-requires c = let a = c.args in let l = c.loop-at in
     ready a.sheet.now a.tables.now a.sections.now a.memo.now (places_of a.remaps.now a.types.now a.constants.now a.globals.now) a.nrecords a.nbytes l.tables l.sections l.memo (places_of l.remaps l.types l.constants l.globals) l.at l.k l.available l.w l.invariant c.requires.0 (sym c.header_test-h.ensures ∙ c.if-h-ne0.false)
     c.loop-at-test.true c.rest_at-rest.result.now c.rest_at-rest.ensures (sym c.no_record.ensures ∙ c.if-no_record.false) c.hash_at-hash.result c.hash_at-hash.ensures
 
 pub returns-then-r-ne0 : goal.returns-then-r-ne0
-returns-then-r-ne0 c = let a = c.args in let l = c.loop-at in let t = c.write_record-t in 
+returns-then-r-ne0 c = let a = c.args in let l = c.loop-at in let t = c.write_record-t in
     refuses a.sheet.now a.tables.now a.sections.now a.memo.now (places_of a.remaps.now a.types.now a.constants.now a.globals.now) a.nrecords a.nbytes l.tables l.sections l.memo (places_of l.remaps l.types l.constants l.globals) l.at l.k l.available l.w l.invariant c.requires.0 (sym c.header_test-h.ensures ∙ c.if-h-ne0.false)
     c.loop-at-test.true c.rest_at-rest.result.now c.rest_at-rest.ensures (sym c.no_record.ensures ∙ c.if-no_record.false)
     t.result t.new.tables t.new.sections t.new.memo
@@ -51,7 +51,7 @@ pub loop-at-smaller : goal.loop-at-smaller
 loop-at-smaller c = let a = c.args in let l = c.loop-at in omega (arith, c.loop-at-test.true, c.next_place-at.ensures)
 
 pub loop-at-preserved : goal.loop-at-preserved
-loop-at-preserved c = let a = c.args in let l = c.loop-at in let t = c.write_record-t in let f = c.hold-k in 
+loop-at-preserved c = let a = c.args in let l = c.loop-at in let t = c.write_record-t in let f = c.hold-k in
     turns a.sheet.now a.tables.now a.sections.now a.memo.now (places_of a.remaps.now a.types.now a.constants.now a.globals.now) a.nrecords a.nbytes l.tables l.sections l.memo (places_of l.remaps l.types l.constants l.globals) l.at l.k l.available l.w l.invariant c.requires.0 (sym c.header_test-h.ensures ∙ c.if-h-ne0.false)
     c.loop-at-test.true c.rest_at-rest.result.now c.rest_at-rest.ensures (sym c.no_record.ensures ∙ c.if-no_record.false)
     t.result t.new.tables t.new.sections t.new.memo
@@ -60,5 +60,5 @@ loop-at-preserved c = let a = c.args in let l = c.loop-at in let t = c.write_rec
     t.auto.tables t.auto.sections t.auto.memo f.auto.remaps f.auto.types f.auto.constants f.auto.globals
 
 pub returns : goal.returns
-returns c = let a = c.args in let l = c.loop-at in 
+returns c = let a = c.args in let l = c.loop-at in
     fits a.sheet.now a.tables.now a.sections.now a.memo.now (places_of a.remaps.now a.types.now a.constants.now a.globals.now) a.nrecords a.nbytes l.tables l.sections l.memo (places_of l.remaps l.types l.constants l.globals) l.at l.k l.available l.w l.invariant c.requires.0 (sym c.header_test-h.ensures ∙ c.if-h-ne0.false) c.loop-at-test.false

@@ -10,18 +10,18 @@ use Rattle.sheet_writer.proofs.write_type.Goals as goal
 
 pub returns-then-not-type_fits : goal.returns-then-not-type_fits
 returns-then-not-type_fits c =
-    let b = c.args.body.now in 
+    let b = c.args.body.now in
     let e = c.inner_of-ty.ensures c.requires.1.1.0.values in
     record { told = λ o f. stop _ _ 14 0 (c.type_fits.ensures o f b (name_end b 0) e) (ap not c.if-not-type_fits.true); written = λ z. absurd (omega (arith, z)) }
 
 pub write_type_declaration_arena-v-requires : goal.write_type_declaration_arena-v-requires
 write_type_declaration_arena-v-requires c =
-    let p = c.requires in 
+    let p = c.requires in
     (p.0, (p.1.0, (record { tag = c.args.tag; tested = p.1.1.0; taken = c.inner_of-ty.ensures }, p.1.1.1)))
 
 pub returns : goal.returns
 returns c =
-    let a = c.args in 
+    let a = c.args in
     let b = a.body.now in
     let e = c.inner_of-ty.ensures c.requires.1.1.0.values in
     record {

@@ -8,5 +8,5 @@ use Rattle.type_facts.proofs.binding_base.Goals as goal
 
 pub returns : goal.returns
 returns c =
-    let a = c.args in 
+    let a = c.args in
     ap index_of (c.base_in.ensures ∙ ap base_in c.facet_at.ensures) ∙ sym (base (inner_at (types_from a.sheet.now a.types.now a.ntypes) a.index))

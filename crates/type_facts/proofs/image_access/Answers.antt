@@ -8,5 +8,5 @@ use Rattle.type_facts.proofs.image_access.Goals as goal
 
 pub returns : goal.returns
 returns c =
-    let a = c.args in 
+    let a = c.args in
     ap byte_of (c.access_in.ensures ∙ ap access_in c.facet_at.ensures) ∙ sym (access (inner_at (types_from a.sheet.now a.types.now a.ntypes) a.index))

@@ -8,5 +8,5 @@ use Rattle.type_facts.proofs.is_dynamic.Goals as goal
 
 pub returns : goal.returns
 returns c =
-    let a = c.args in 
+    let a = c.args in
     c.dynamic_in.ensures ∙ ap dynamic_in c.facet_at.ensures ∙ sym (dynamic (inner_at (types_from a.sheet.now a.types.now a.ntypes) a.index))

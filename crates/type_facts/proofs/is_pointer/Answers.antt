@@ -8,5 +8,5 @@ use Rattle.type_facts.proofs.is_pointer.Goals as goal
 
 pub returns : goal.returns
 returns c =
-    let a = c.args in 
+    let a = c.args in
     c.pointer_in.ensures ∙ ap pointer_in c.facet_at.ensures ∙ sym (pointer (inner_at (types_from a.sheet.now a.types.now a.ntypes) a.index))

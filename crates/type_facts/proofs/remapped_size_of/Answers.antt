@@ -9,8 +9,8 @@ entries-init c = (omega arith, refl)
 
 pub entries-preserved-then-m-group : goal.entries-preserved-then-m-group
 entries-preserved-then-m-group c =
-    let a = c.args in 
-    let l = c.entries in 
+    let a = c.args in
+    let l = c.entries in
     let lt = c.entries-test.true in (
       omega (arith, lt),
       l.invariant.1
@@ -19,8 +19,8 @@ entries-preserved-then-m-group c =
 
 pub entries-preserved : goal.entries-preserved
 entries-preserved c =
-    let a = c.args in 
-    let l = c.entries in 
+    let a = c.args in
+    let l = c.entries in
     let lt = c.entries-test.true in (
       omega (arith, lt),
       l.invariant.1
@@ -29,15 +29,15 @@ entries-preserved c =
 
 pub returns-in-entries : goal.returns-in-entries
 returns-in-entries c =
-    let a = c.args in 
-    let l = c.entries in 
-    let lt = c.entries-test.true in 
+    let a = c.args in
+    let l = c.entries in
+    let lt = c.entries-test.true in
     sym
     (l.invariant.1
     ∙ this_one a.sheet.now a.remaps.now a.nremaps a.group a.binding l.k c.requires lt (remap_as c.remap_at-m.result) c.remap_at-m.ensures c.if-m-group.false c.if-m-binding.false)
 
 pub returns : goal.returns
 returns c =
-    let a = c.args in 
-    let l = c.entries in 
+    let a = c.args in
+    let l = c.entries in
     sym (l.invariant.1 ∙ no_more a.sheet.now a.remaps.now a.nremaps a.group a.binding l.k c.requires c.entries-test.false)

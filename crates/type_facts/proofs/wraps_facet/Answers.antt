@@ -10,7 +10,7 @@ use Rattle.type_facts.proofs.wraps_facet.Goals as goal
 
 pub returns-in-Struct : goal.returns-in-Struct
 returns-in-Struct c =
-    let a = c.args in 
+    let a = c.args in
     let b = a.b.now in
     let n = name_end b 0 in
     ap not c.ends_dynamic.ensures

@@ -1,11 +1,6 @@
 -- `put_answers`. The invariant (`Begun`): what stands in the text, then the lines of the globals that are left, is the whole. The
 -- measure is how many may be left. A turn and the two ways out are one law each of Lines.
-use Prim.Native.Nat.{◌-◌}
-use mathlib.Core.Path.{sym, ap, ◌∙◌}
-use native.Mathlib.Omega.{arith}
-use borrow.Author.Rules.{rules}
-use Rattle.declarations.specs.Promise.{wrapping_as}
-use Rattle.wrapped_main.proofs.Lines.{Begun, start, more, stop, done}
+use Rattle.wrapped_main.proofs.Lines.{Begun}
 use Rattle.wrapped_main.proofs.put_answers.Given as goal
 
 abbrev pub invariant-loop-left : goal.invariant-loop-left

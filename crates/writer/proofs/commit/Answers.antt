@@ -1,5 +1,4 @@
 -- The words pending become the last of the section.
-use borrow.Author.Rules.{rules}
 use Rattle.writer.proofs.Words.{committed}
 use Rattle.writer.proofs.commit.Goals as goal
 

@@ -1,5 +1,4 @@
 -- The parts that stand behind those in use, lent to the constructor: there are n of them.
-use borrow.Author.Rules.{rules}
 use Rattle.definition.specs.Instructions.{constant_composite}
 use Rattle.writer.proofs.Staged.{puts_staged}
 use Rattle.writer.proofs.declare_composite.Goals as goal

@@ -1,5 +1,4 @@
 -- The ids that stand behind those in use, lent to the constructor: there are n of them.
-use borrow.Author.Rules.{rules}
 use Rattle.definition.specs.Instructions.{type_function}
 use Rattle.writer.proofs.Staged.{puts_staged}
 use Rattle.writer.proofs.declare_function.Goals as goal

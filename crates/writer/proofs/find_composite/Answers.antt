@@ -1,6 +1,5 @@
 -- What `seek_parts` finds in the rows and the parts in use is the definition's lookup.
 use Rattle.writer.proofs.Parts.{finds_composite}
-use borrow.Author.Rules.{rules}
 use Rattle.writer.proofs.find_composite.Goals as goal
 
 pub returns : goal.returns

@@ -1,6 +1,5 @@
 -- What `seek` finds in the rows is the definition's lookup.
 use Rattle.writer.proofs.Search.{finds_literal}
-use borrow.Author.Rules.{rules}
 use Rattle.writer.proofs.find_literal.Goals as goal
 
 pub returns : goal.returns

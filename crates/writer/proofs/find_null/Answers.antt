@@ -1,6 +1,5 @@
 -- What `seek_key` finds in the rows is the definition's lookup.
 use Rattle.writer.proofs.Search.{finds_null}
-use borrow.Author.Rules.{rules}
 use Rattle.writer.proofs.find_null.Goals as goal
 
 pub returns : goal.returns

@@ -1,6 +1,5 @@
 -- What `seek_key` finds in the rows is the definition's lookup, keys being packed injectively.
 use Rattle.writer.proofs.Search.{finds_type}
-use borrow.Author.Rules.{rules}
 use Rattle.writer.proofs.find_type.Goals as goal
 
 pub returns : goal.returns

@@ -1,12 +1,9 @@
 -- The invariant: the number is listed if it is among those that are left.
-use Rattle.writer.proofs.Words.{listed_hit, listed_miss, listed_none}
 use Rattle.writer.specs.Rows.{is_listed}
 use lib.ListN.{take}
 use lib.Seq.{slice}
-use Prim.Native.Nat.{ℕ, ◌-◌, ◌≤◌}
-use mathlib.Core.Path.{◌≡◌, refl, sym, ap, ◌∙◌}
-use native.Mathlib.Omega.{arith}
-use borrow.Author.Rules.{rules}
+use Prim.Native.Nat.{◌-◌, ◌≤◌}
+use mathlib.Core.Path.{◌≡◌}
 use Rattle.writer.proofs.is_listed.Given as goal
 
 abbrev pub invariant-loop-i : goal.invariant-loop-i

@@ -6,16 +6,15 @@ use lib.ListN.{length}
 use Rattle.definition.specs.Instructions.{words, name}
 use Prim.Native.Nat.{◌+◌}
 use native.Mathlib.Omega.{arith}
-use borrow.Author.Rules.{rules}
 use Rattle.writer.proofs.label.Goals as goal
 
 pub overflow_add-w : goal.overflow_add-w
 overflow_add-w c =
-    let a = c.args in 
-    let t = c.low_word-t.result in 
+    let a = c.args in
+    let t = c.low_word-t.result in
     let f = name_few t a.bytes.now in
     omega (arith, c.well_formed, c.requires.1, f, adds_count a.w a.sections.now (words (name t a.bytes.now)) (length a.bytes.now + 3) f names c.name-n.new.sink c.name-n.result c.requires.1 c.name-n.ensures)
 
 pub returns : goal.returns
-returns c = let a = c.args in 
+returns c = let a = c.args in
     labels a.w a.sections.now a.target a.bytes.now c.requires.0 (λ i. omega (arith, c.type_inv.bytes i)) c.low_word-t.result c.low_word-t.ensures c.name-n.new.sink c.name-n.result c.requires.1 c.name-n.ensures

@@ -5,7 +5,6 @@ use Rattle.lookup.specs.Local.{as_list}
 use Prim.Native.Nat.{ℕ, ◌+◌}
 use mathlib.Core.List.{List}
 use mathlib.Core.Path.{sym, ◌∙◌, subst}
-use borrow.Author.Rules.{rules}
 use Rattle.writer.proofs.listed.Goals as goal
 
 pub returns-then-c-eq0 : goal.returns-then-c-eq0
@@ -15,5 +14,5 @@ pub returns-then-is_listed : goal.returns-then-is_listed
 returns-then-is_listed c = let a = c.args in counts_old a.sections.now a.n a.c c.if-c-eq0.false (sym c.is_listed.ensures ∙ c.if-is_listed.true)
 
 pub returns : goal.returns
-returns c = let a = c.args in 
+returns c = let a = c.args in
     subst (λ (t : List ℕ). CountListed (as_list a.c) a.n a.sections.now (a.n + 1) t) (sym c.put_word.ensures) (counts_new a.sections.now a.n a.c c.if-c-eq0.false (sym c.is_listed.ensures ∙ c.if-is_listed.false))

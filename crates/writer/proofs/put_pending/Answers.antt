@@ -5,9 +5,8 @@ use Rattle.writer.specs.Steps.{Pending}
 use Prim.Native.Nat.{ℕ, ◌+◌}
 use mathlib.Core.List.{List, [], ◌∷◌}
 use mathlib.Core.Path.{refl, sym, subst}
-use borrow.Author.Rules.{rules}
 use Rattle.writer.proofs.put_pending.Goals as goal
 
 pub returns : goal.returns
-returns c = let a = c.args in 
+returns c = let a = c.args in
     subst (λ (t : List ℕ). Pending a.k (a.x ∷ []) a.w a.sections.now t) (sym c.put_word.ensures) (pending a.w a.sections.now a.k (a.x ∷ []) (section_at declarations a.w + a.w.declarations + a.k) refl c.requires)

@@ -2,9 +2,8 @@
 use mathlib.Core.List.{[], ◌∷◌}
 use lib.Seq.{sets-eq}
 use native.Mathlib.Omega.{arith}
-use borrow.Author.Rules.{rules}
 use Rattle.writer.proofs.put_word.Goals as goal
 
 pub returns : goal.returns
-returns c = let a = c.args in 
+returns c = let a = c.args in
     sets-eq (a.x ∷ []) a.sections.now a.p (omega arith)

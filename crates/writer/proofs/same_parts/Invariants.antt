@@ -1,11 +1,8 @@
 -- The invariant of both loops: the numbers are the same if those that are left are. A pair that differs decides at once.
 use Rattle.writer.specs.Rows.{part, same_list}
-use Rattle.writer.proofs.Parts.{parts_end, part_length, windows_differ, windows_same}
 use lib.ListN.{drop}
-use Prim.Native.Nat.{◌+◌, ◌-◌, ◌≤◌}
-use mathlib.Core.Path.{◌≡◌, refl, sym, ◌∙◌}
-use native.Mathlib.Omega.{arith}
-use borrow.Author.Rules.{rules}
+use Prim.Native.Nat.{◌-◌, ◌≤◌}
+use mathlib.Core.Path.{◌≡◌}
 use Rattle.writer.proofs.same_parts.Given as goal
 
 abbrev pub invariant-fours : goal.invariant-fours

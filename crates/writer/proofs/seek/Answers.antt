@@ -1,9 +1,8 @@
 use Rattle.writer.proofs.Search.{hit_triple, other_triple, miss, miss1, miss2, miss3, miss4, ended}
-use Rattle.writer.specs.Rows.{triple, table_rows, seek_in}
-use Prim.Native.Nat.{◌+◌, ◌*◌, ◌-◌}
-use mathlib.Core.Path.{◌≡◌, refl, sym, ◌∙◌}
+use Rattle.writer.specs.Rows.{triple}
+use Prim.Native.Nat.{◌+◌, ◌-◌}
+use mathlib.Core.Path.{refl, sym, ◌∙◌}
 use native.Mathlib.Omega.{arith}
-use borrow.Author.Rules.{rules}
 use Rattle.writer.proofs.seek.Goals as goal
 use Rattle.writer.proofs.seek.Goals.{then-tables-p+else-tables-p-2, else-tables-p, then-tables-p-3+else-tables-p-4, else-tables-p-3, then-tables-p-5+else-tables-p-6, else-tables-p-5, then-tables-p-7+else-tables-p-8, else-tables-p-7, then-tables-p-9+else-tables-p-10, else-tables-p-9}
 
@@ -11,7 +10,7 @@ pub fours-init : goal.fours-init
 fours-init c = (refl, refl)
 
 pub returns-then-tables-p-2 : goal.returns-then-tables-p-2
-returns-then-tables-p-2 c = let a = c.args in let l = c.fours in 
+returns-then-tables-p-2 c = let a = c.args in let l = c.fours in
     sym (l.invariant.1 ∙ hit_triple a.a a.b a.tables.now l.p (l.p + 1) refl l.left (l.p + 2) (omega arith) refl c.if-tables-p.true c.if-tables-p-2.true)
 
 pub returns-then-tables-p-4 : goal.returns-then-tables-p-4
@@ -37,7 +36,7 @@ pub loop-left-init : goal.loop-left-init
 loop-left-init c = c.fours.invariant
 
 pub returns-then-tables-p-10 : goal.returns-then-tables-p-10
-returns-then-tables-p-10 c = let a = c.args in let l = c.loop-left in 
+returns-then-tables-p-10 c = let a = c.args in let l = c.loop-left in
     sym (l.invariant.1 ∙ hit_triple a.a a.b a.tables.now l.p (l.p + 1) refl l.left (l.p + 2) (omega arith) refl c.if-tables-p-9.true c.if-tables-p-10.true)
 
 pub loop-left-preserved : goal.loop-left-preserved
@@ -45,5 +44,5 @@ loop-left-preserved c = let a = c.args in let l = c.loop-left in let other = oth
     (omega arith, l.invariant.1 ∙ miss triple a.a a.b a.tables.now l.p l.left (l.left - 1) (l.p + 3) (omega arith) refl (other l.p (l.p + 1) refl (λ f e. elim c.if-tables-p-9.branch [ then-tables-p-9+else-tables-p-10 w ↦ w.if-tables-p-10.false e | else-tables-p-9 w ↦ w.if-tables-p-9.false f ])))
 
 pub returns : goal.returns
-returns c = let a = c.args in let l = c.loop-left in 
+returns c = let a = c.args in let l = c.loop-left in
     sym (l.invariant.1 ∙ ended triple a.a a.b a.tables.now l.p l.left (omega arith))

@@ -1,9 +1,8 @@
 use Rattle.writer.proofs.Search.{hit_pair, miss, miss1, miss2, miss3, miss4, ended}
-use Rattle.writer.specs.Rows.{pair, table_rows, seek_in}
-use Prim.Native.Nat.{◌+◌, ◌*◌, ◌-◌}
-use mathlib.Core.Path.{◌≡◌, refl, sym, ◌∙◌}
+use Rattle.writer.specs.Rows.{pair}
+use Prim.Native.Nat.{◌+◌, ◌-◌}
+use mathlib.Core.Path.{refl, sym, ◌∙◌}
 use native.Mathlib.Omega.{arith}
-use borrow.Author.Rules.{rules}
 use Rattle.writer.proofs.seek_key.Goals as goal
 
 pub fours-init : goal.fours-init

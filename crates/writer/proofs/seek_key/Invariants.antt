@@ -1,10 +1,7 @@
 -- The invariant of both loops: what is found among all the rows is what is found among those that are left.
-use Rattle.writer.proofs.Search.{hit_pair, miss, miss1, miss2, miss3, miss4, ended}
 use Rattle.writer.specs.Rows.{pair, table_rows, seek_in}
-use Prim.Native.Nat.{◌+◌, ◌*◌, ◌-◌}
-use mathlib.Core.Path.{◌≡◌, refl, sym, ◌∙◌}
-use native.Mathlib.Omega.{arith}
-use borrow.Author.Rules.{rules}
+use Prim.Native.Nat.{◌+◌, ◌*◌}
+use mathlib.Core.Path.{◌≡◌}
 use Rattle.writer.proofs.seek_key.Given as goal
 
 abbrev pub invariant-fours : goal.invariant-fours

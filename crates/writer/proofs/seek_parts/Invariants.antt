@@ -1,12 +1,8 @@
 -- The invariant: what is found among all the rows is what is found among those that are left, whose parts begin at the running
 -- offset. The counters move before the tests, so that every `continue` owes the same.
-use lib.ListN.{get_or}
-use native.Mathlib.Omega.{arith}
-use mathlib.Core.Path.{◌≡◌, sym, ap, ◌∙◌}
-use Prim.Native.Nat.{ℕ, ◌+◌, ◌-◌, ◌*◌, ◌≤◌}
-use Rattle.writer.specs.Rows.{part, same_list, seek_parts}
-use Rattle.writer.proofs.Parts.{list_length, part_length, parts_over, parts_ended, parts_hit, other_key, other_parts}
-use borrow.Author.Rules.{rules}
+use mathlib.Core.Path.{◌≡◌}
+use Prim.Native.Nat.{◌+◌, ◌-◌, ◌*◌, ◌≤◌}
+use Rattle.writer.specs.Rows.{part, seek_parts}
 use Rattle.writer.proofs.seek_parts.Given as goal
 
 abbrev pub invariant-entries : goal.invariant-entries

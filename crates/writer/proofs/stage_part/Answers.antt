@@ -4,7 +4,6 @@ use Prim.Native.Nat.{◌+◌}
 use mathlib.Core.List.{[], ◌∷◌}
 use lib.Seq.{sets-eq}
 use Rattle.writer.specs.Regions.{parts_at}
-use borrow.Author.Rules.{rules}
 use Rattle.writer.proofs.stage_part.Goals as goal
 
 pub returns : goal.returns

@@ -5,7 +5,6 @@ use mathlib.Core.Path.{◌≡◌, ap, ◌∙◌}
 use native.Mathlib.Omega.{arith}
 use lib.ListN.{length, take, drop, length-drop}
 use lib.Seq.{length-take-le}
-use borrow.Author.Rules.{rules}
 use Rattle.writer.specs.Rows.{part}
 use Rattle.writer.specs.Regions.{parts_at}
 use Rattle.writer.proofs.staged_parts.Goals as goal
@@ -18,7 +17,7 @@ part_length T p n h = length-take-le n (drop p T) (simp length-drop (omega arith
 
 pub returns : goal.returns
 returns c =
-    let a = c.args in 
+    let a = c.args in
     let p = parts_at a.w + a.w.parts in
     let l = lent a.tables.now p a.n in
     (l, ap length l ∙ part_length a.tables.now p a.n (omega (arith, c.requires)))

@@ -1,7 +1,6 @@
 -- A row of the table, or none past its end.
 use native.Mathlib.Omega.{arith}
 use Rattle.writer.proofs.Values.{value_there, value_past}
-use borrow.Author.Rules.{rules}
 use Rattle.writer.proofs.value_at.Goals as goal
 
 pub returns-then-w-c : goal.returns-then-w-c

@@ -25,18 +25,18 @@ enter_composite-u-requires c = omega (arith, c.requires.1.rows, c.take_id-m.ensu
 
 pub returns-in-Id : goal.returns-in-Id
 returns-in-Id c =
-    let a = c.args in 
-    let x = c.find_composite in 
+    let a = c.args in
+    let x = c.find_composite in
     let xs = part a.tables.now (parts_at a.w + a.w.parts) a.n in
     shared_old (function xs) tt (λ i. type_function i xs) 13 a.n refl a.w a.tables.now a.sections.now refl x.result x.ensures (signature_cost a.n) c.in-Id.id c.in-Id.is
 
 pub returns-in-Absent : goal.returns-in-Absent
 returns-in-Absent c =
-    let a = c.args in 
-    let x = c.find_composite in 
-    let m = c.take_id-m in 
-    let d = c.declare_function-v in 
-    let u = c.enter_composite-u in 
+    let a = c.args in
+    let x = c.find_composite in
+    let m = c.take_id-m in
+    let d = c.declare_function-v in
+    let u = c.enter_composite-u in
     let xs = part a.tables.now (parts_at a.w + a.w.parts) a.n in
     let same = parts-wait a.tables.now a.n a.w m.result.writer m.ensures.grown in
     shared_new (function xs) tt (λ i. type_function i xs) 13 a.n refl a.w a.tables.now a.sections.now refl x.result x.ensures c.in-Absent.is

@@ -8,16 +8,16 @@ use Rattle.writer_functions.proofs.get_void_type.Goals as goal
 
 pub returns-in-Id : goal.returns-in-Id
 returns-in-Id c =
-    let a = c.args in 
-    let x = c.find_composite in 
+    let a = c.args in
+    let x = c.find_composite in
     shared_old void tt type_void 14 0 refl a.w a.tables.now a.sections.now refl x.result x.ensures void_cost c.in-Id.id c.in-Id.is
 
 pub returns-in-Absent : goal.returns-in-Absent
 returns-in-Absent c =
-    let a = c.args in 
-    let x = c.find_composite in 
-    let m = c.take_id-m in 
-    let d = c.type_void-v in 
-    let u = c.enter_composite-u in 
+    let a = c.args in
+    let x = c.find_composite in
+    let m = c.take_id-m in
+    let d = c.type_void-v in
+    let u = c.enter_composite-u in
     shared_new void tt type_void 14 0 refl a.w a.tables.now a.sections.now refl x.result x.ensures c.in-Absent.is
     m.result m.ensures 2 d.result d.new.sections d.ensures u.result u.new.tables u.ensures

@@ -16,12 +16,12 @@ loop-i-init c = (omega arith, refl, has_none c.args.body.now c.args.w c.stage_pa
 
 pub loop-i-preserved : goal.loop-i-preserved
 loop-i-preserved c =
-    let a = c.args in 
-    let l = c.loop-i in 
-    let z = c.stage_part in 
-    let t = c.u16_at-ty in 
-    let x = c.type_id-id in 
-    let p = c.stage_part-in-loop-i in 
+    let a = c.args in
+    let l = c.loop-i in
+    let z = c.stage_part in
+    let t = c.u16_at-ty in
+    let x = c.type_id-id in
+    let p = c.stage_part-in-loop-i in
     let room : RoomIn (staging (a.n + 1)) a.w z.new.tables = omega (arith, c.requires.1, z.auto.tables) in (
       omega arith,
       ap length p.ensures ∙ splice-length l.tables (waiting a.w + (l.i + 1)) (x.result ∷ []) (omega (arith, room, l.invariant.1)) ∙ l.invariant.1,
@@ -31,9 +31,9 @@ loop-i-preserved c =
 
 pub returns : goal.returns
 returns c =
-    let a = c.args in 
-    let l = c.loop-i in 
-    let z = c.stage_part in 
+    let a = c.args in
+    let l = c.loop-i in
+    let z = c.stage_part in
     let e : l.i ≡ a.n = omega arith in
     let first : waiting a.w + 0 ≡ waiting a.w = omega arith in
     has_all a.body.now a.w a.tables.now z.new.tables l.tables a.res a.n c.requires.1 (z.ensures ∙ ap (λ (j : ℕ). splice a.tables.now j (a.res ∷ [])) first) (rw e at l.invariant.2)

@@ -22,7 +22,7 @@ variable-requires c = room_variable (name_end c.args.b.now 0) c.requires c.take_
 
 pub returns : goal.returns
 returns c =
-    let a = c.args in 
+    let a = c.args in
     λ ts rs zeroing q.
     declared (record { debug = a.debug; zeroing = zeroing }) ts rs a.b.now a.g c.take_id-t.ensures c.name_global-a.ensures q.access c.decorate_access-c.ensures c.decorate_binding-e.ensures a.plan.form q.form c.write_pointer-p.ensures
     q.base c.block_base-f.ensures q.null c.write_init-z.ensures c.map_storage_class-class.ensures c.variable.ensures

@@ -1,5 +1,4 @@
 -- Written or not.
-use borrow.Author.Rules.{rules}
 use Rattle.writer_members.proofs.Members.{named_room, named, unnamed}
 use Rattle.writer_members.proofs.name_member.Goals as goal
 

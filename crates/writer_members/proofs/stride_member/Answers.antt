@@ -1,5 +1,4 @@
 -- Two annotations where there is a stride, else nothing.
-use borrow.Author.Rules.{rules}
 use Rattle.writer_members.proofs.Members.{strided, unstrided}
 use Rattle.writer_members.proofs.stride_member.Goals as goal
 

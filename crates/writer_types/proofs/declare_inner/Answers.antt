@@ -7,34 +7,34 @@ use Rattle.writer_types.proofs.Whole.{shape_room, shape_got, aggregate_room, agg
 use Rattle.writer_types.proofs.declare_inner.Goals as goal
 
 pub get_type_id-requires : goal.get_type_id-requires
-get_type_id-requires c = let a = c.args in 
+get_type_id-requires c = let a = c.args in
     let n = name_end a.b.now 0 in
-    let m = c.make_local in 
-    let l = c.in-Local in 
+    let m = c.make_local in
+    let l = c.in-Local in
     shape_room (inner_in a.b.now a.t) m.result (m.ensures a.b.now n) a.w a.tables.now a.sections.now l.l l.is c.requires.1
 
 pub write_aggregate-v-requires : goal.write_aggregate-v-requires
-write_aggregate-v-requires c = let a = c.args in 
-    let p = c.requires in 
+write_aggregate-v-requires c = let a = c.args in
+    let p = c.requires in
     let n = name_end a.b.now 0 in
-    let m = c.make_local in 
+    let m = c.make_local in
     let r = aggregate_room (inner_in a.b.now a.t) m.result (m.ensures a.b.now n) a.w a.tables.now a.sections.now c.in-Aggregate.is p.1 in
     (p.0, omega (arith, r.rows, r.words, c.take_id-k.ensures.grown))
 
 pub returns-in-Local : goal.returns-in-Local
-returns-in-Local c = let a = c.args in 
+returns-in-Local c = let a = c.args in
     let n = name_end a.b.now 0 in
-    let m = c.make_local in 
-    let l = c.in-Local in 
-    let g = c.get_type_id in 
+    let m = c.make_local in
+    let l = c.in-Local in
+    let g = c.get_type_id in
     shape_got (inner_in a.b.now a.t) m.result (m.ensures a.b.now n) a.w a.tables.now a.sections.now l.l l.is
     a.debug (types_from a.s.now a.types.now a.n) g.result g.new.tables g.new.sections g.ensures
 
 pub returns-in-Aggregate : goal.returns-in-Aggregate
-returns-in-Aggregate c = let a = c.args in 
+returns-in-Aggregate c = let a = c.args in
     let n = name_end a.b.now 0 in
-    let m = c.make_local in 
-    let k = c.take_id-k in 
-    let g = c.write_aggregate-v in 
+    let m = c.make_local in
+    let k = c.take_id-k in
+    let g = c.write_aggregate-v in
     aggregate_got (inner_in a.b.now a.t) m.result (m.ensures a.b.now n) a.w a.tables.now a.sections.now c.in-Aggregate.is
     a.debug (types_from a.s.now a.types.now a.n) k.result k.ensures g.result g.new.tables g.new.sections g.ensures

@@ -18,7 +18,7 @@ picked false x = refl
 pub returns : goal.returns
 unfolding name_at
 returns c =
-    let a = c.args in 
+    let a = c.args in
     let b = a.body.now in
     let n = get_or b a.index 0 in
     rw c.u8_at.ensures (picked (eqb n 255) (take n (drop (a.index + 1) b)))

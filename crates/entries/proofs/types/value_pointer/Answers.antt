@@ -12,7 +12,7 @@ use Rattle.entries.proofs.types.value_pointer.Goals as goal
 pub returns : goal.returns
 unfolding type_fields
 returns c = λ h.
-    let a = c.args in 
+    let a = c.args in
     let b = a.b.now in
     let y = both (eqb (u8_at b a.n) 0 || size_fits (u8_at b a.n)) (scalar_fits (u8_at b (a.n + 1)) (u8_at b (a.n + 2)) && space_fits (u8_at b (a.n + 3)) (u8_at b (a.n + 4))) h in
     let z = both (scalar_fits (u8_at b (a.n + 1)) (u8_at b (a.n + 2))) (space_fits (u8_at b (a.n + 3)) (u8_at b (a.n + 4))) y.1 in

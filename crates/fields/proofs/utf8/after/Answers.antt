@@ -1,7 +1,6 @@
 -- `fields::utf8::after`: one law of the ranges for each way out: none was left, the byte is below the first range, above
 -- it, or within it.
 use mathlib.Core.Path.{ap, sym, ◌∙◌}
-use borrow.Author.Rules.{rules}
 use Rattle.fields.specs.Pending.{next_of}
 use Rattle.fields.proofs.Octets.{leads, too_low, too_high, fitting}
 use Rattle.fields.proofs.utf8.after.Goals as goal

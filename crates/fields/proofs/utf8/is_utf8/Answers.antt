@@ -1,9 +1,7 @@
-use Prim.Native.Nat.{◌≤◌, ◌-◌}
-use mathlib.Core.Path.{◌≡◌, refl, ap, ◌∙◌, sym}
+use mathlib.Core.Path.{refl, ap, ◌∙◌, sym}
 use borrow.Author.Rules.{rules}
-use lib.ListN.{length, drop}
-use Rattle.definition.specs.Utf8.{octets, utf8}
-use Rattle.fields.specs.Pending.{ranges_of, next_of}
+use Rattle.definition.specs.Utf8.{utf8}
+use Rattle.fields.specs.Pending.{next_of}
 use Rattle.fields.proofs.Octets.{goes_on, stops, ends}
 use Rattle.fields.proofs.utf8.is_utf8.Goals as goal
 
@@ -21,5 +19,5 @@ loop-i-preserved c =
 
 pub returns : goal.returns
 returns c =
-    let l = c.loop-i in 
+    let l = c.loop-i in
     sym (l.invariant.1 ∙ ends _ _ l.p.left l.p.low l.p.high c.loop-i-test.false)

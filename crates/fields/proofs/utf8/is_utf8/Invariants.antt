@@ -1,12 +1,10 @@
 -- `fields::utf8::is_utf8`: what is left to read, with what must still come of a character, is judged as the whole is.
 -- A byte that leaves something to come keeps that, and at the end nothing may be left to come.
 use Prim.Native.Nat.{◌≤◌, ◌-◌}
-use mathlib.Core.Path.{◌≡◌, refl, ap, ◌∙◌, sym}
-use borrow.Author.Rules.{rules}
+use mathlib.Core.Path.{◌≡◌}
 use lib.ListN.{length, drop}
 use Rattle.definition.specs.Utf8.{octets, utf8}
-use Rattle.fields.specs.Pending.{ranges_of, next_of}
-use Rattle.fields.proofs.Octets.{goes_on, stops, ends}
+use Rattle.fields.specs.Pending.{ranges_of}
 use Rattle.fields.proofs.utf8.is_utf8.Given as goal
 
 abbrev pub invariant-loop-i : goal.invariant-loop-i

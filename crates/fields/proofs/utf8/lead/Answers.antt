@@ -2,7 +2,6 @@
 -- the arm begins the same.
 use mathlib.Core.Path.{ap, ◌∙◌}
 use native.Mathlib.Omega.{arith}
-use borrow.Author.Rules.{rules}
 use Rattle.fields.specs.Pending.{next_of}
 use Rattle.fields.proofs.Rows.{alike}
 use Rattle.fields.proofs.utf8.lead.Goals as goal

@@ -1,5 +1,4 @@
 -- The test's two answers.
-use borrow.Author.Rules.{rules}
 use Rattle.listing.proofs.forms.form_test.Goals as goal
 
 pub returns-then-is_written : goal.returns-then-is_written

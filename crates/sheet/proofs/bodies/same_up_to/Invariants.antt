@@ -1,15 +1,9 @@
 -- The first j bytes answer for the first q. A turn takes eight bytes, or four, or one, off their end by the laws of Comparing; where j
 -- is no longer above p, they are the same by what the caller says.
-use Prim.Native.Nat.{ℕ, ◌-◌, ◌≤◌}
-use mathlib.Core.Bool.{false}
-use mathlib.Core.List.{List}
-use mathlib.Core.Path.{◌≡◌, refl, sym, ◌∙◌}
-use native.Mathlib.Omega.{arith}
-use borrow.Author.Rules.{rules}
+use Prim.Native.Nat.{◌≤◌}
+use mathlib.Core.Path.{◌≡◌}
 use lib.ListN.{take}
 use Rattle.definition.specs.Tests.{same_bytes}
-use Rattle.sheet.specs.Reading.{bytes_at}
-use Rattle.sheet.proofs.Comparing.{shorter, bytes_differ, bytes_same, one, four, eight}
 use Rattle.sheet.proofs.bodies.same_up_to.Given as goal
 
 abbrev pub invariant-loop-j : goal.invariant-loop-j

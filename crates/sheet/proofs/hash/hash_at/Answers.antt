@@ -2,7 +2,6 @@
 use Prim.Native.Nat.{ℕ}
 use mathlib.Core.List.{List}
 use mathlib.Core.Path.{ap, ap₂, ◌∙◌}
-use borrow.Author.Rules.{rules}
 use Rattle.definition.specs.Sheet.{tag_rank}
 use Rattle.sheet_fields.specs.Fields.{record_of}
 use Rattle.sheet.specs.Hash.{hash_of}

@@ -1,4 +1,4 @@
-use Prim.Native.Nat.{ℕ, ◌+◌, ◌-◌, ◌*◌, ◌/◌, ◌≤◌}
+use Prim.Native.Nat.{ℕ, ◌+◌, ◌*◌, ◌/◌}
 use mathlib.Core.Path.{◌≡◌, refl, ap, ap₂, ◌∙◌}
 use mathlib.Core.List.{List}
 use native.Mathlib.Numerals.{add-one}
@@ -26,8 +26,8 @@ whole_u32_at-requires c = omega arith
 
 pub loop-i-preserved : goal.loop-i-preserved
 loop-i-preserved c =
-    let a = c.args in 
-    let l = c.loop-i in 
+    let a = c.args in
+    let l = c.loop-i in
     (omega arith, one_word a.b.now a.t l.i l.h c.whole_u32_at.result c.hash_step-h.result l.invariant.1 c.whole_u32_at.ensures c.hash_step-h.ensures)
 
 pub overflow_mul-n : goal.overflow_mul-n
@@ -35,7 +35,7 @@ overflow_mul-n c = omega arith
 
 pub returns : goal.returns
 returns c =
-    let a = c.args in 
-    let l = c.loop-i in 
+    let a = c.args in
+    let l = c.loop-i in
     let e : l.i ≡ length a.b.now / 4 = omega (arith, c.loop-i-test.false) in
     one_word a.b.now a.t (length a.b.now / 4) l.h c.u32_at.result c.hash_step.result (l.invariant.1 ∙ ap (hash_words a.b.now a.t) e) c.u32_at.ensures c.hash_step.ensures

@@ -1,13 +1,7 @@
 -- After i words h is the definition's number of i words; the last, which may not be whole, comes behind the loop.
-use Prim.Native.Nat.{ℕ, ◌+◌, ◌-◌, ◌*◌, ◌/◌, ◌≤◌}
-use mathlib.Core.Path.{◌≡◌, refl, ap, ap₂, ◌∙◌}
-use mathlib.Core.List.{List}
-use native.Mathlib.Numerals.{add-one}
-use native.Mathlib.Omega.{arith}
-use borrow.Author.Rules.{rules}
-use lib.ListN.{length}
-use Rattle.definition.specs.Bytes.{u32_at}
-use Rattle.sheet.specs.Hash.{hash_step, hash_words}
+use Prim.Native.Nat.{◌-◌, ◌≤◌}
+use mathlib.Core.Path.{◌≡◌}
+use Rattle.sheet.specs.Hash.{hash_words}
 use Rattle.sheet.proofs.hash.hash_of.Given as goal
 
 abbrev pub invariant-loop-i : goal.invariant-loop-i

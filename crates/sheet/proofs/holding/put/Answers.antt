@@ -1,6 +1,5 @@
 -- Past the slice's end nothing is stored, and nothing set.
 use mathlib.Core.Path.{sym}
-use borrow.Author.Rules.{rules}
 use lib.Seq.{set_out}
 use Rattle.sheet.proofs.holding.put.Goals as goal
 

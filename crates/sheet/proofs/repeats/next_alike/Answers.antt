@@ -1,7 +1,6 @@
-use Prim.Native.Nat.{◌-◌, ◌+◌, ◌≤◌}
+use Prim.Native.Nat.{◌+◌}
 use native.Mathlib.Omega.{arith}
 use borrow.Author.Rules.{rules}
-use Rattle.sheet.specs.Hash.{Unlike}
 use Rattle.sheet.proofs.Hashes.{one_more, joined}
 use Rattle.sheet.proofs.repeats.next_alike.Goals as goal
 

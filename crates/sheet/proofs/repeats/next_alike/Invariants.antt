@@ -1,9 +1,6 @@
 -- None of the types from i to j has the hash. A turn takes eight more, or one, by the laws of Hashes.
-use Prim.Native.Nat.{◌-◌, ◌+◌, ◌≤◌}
-use native.Mathlib.Omega.{arith}
-use borrow.Author.Rules.{rules}
+use Prim.Native.Nat.{◌-◌, ◌≤◌}
 use Rattle.sheet.specs.Hash.{Unlike}
-use Rattle.sheet.proofs.Hashes.{one_more, joined}
 use Rattle.sheet.proofs.repeats.next_alike.Given as goal
 
 abbrev pub invariant-eights : goal.invariant-eights

@@ -1,6 +1,5 @@
 -- Where the eight tests in one are false, each of them is (Hashes).
 use mathlib.Core.Path.{refl}
-use borrow.Author.Rules.{rules}
 use Prim.Native.Nat.{◌+◌}
 use Rattle.sheet.proofs.Hashes.{eight_unlike}
 use Rattle.sheet.proofs.repeats.one_alike.Goals as goal

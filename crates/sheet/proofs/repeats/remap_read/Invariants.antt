@@ -1,17 +1,13 @@
 -- The invariant: none was found, and what is left of the entries answers for all of them. A group or a binding that differs makes an entry another, and
 -- the loop goes on; where neither differs, the entry is the one that was looked for.
-use Prim.Native.Nat.{ℕ, ◌-◌, ◌≤◌}
-use mathlib.Core.Bool.{false, and-false}
-use mathlib.Core.List.{List, map}
-use mathlib.Core.Path.{◌≡◌, refl, ap, sym, ◌∙◌}
-use native.Mathlib.Omega.{arith}
-use borrow.Author.Tests.{eq-eqb, ne_eqb}
-use borrow.Author.Rules.{rules}
+use Prim.Native.Nat.{◌-◌, ◌≤◌}
+use mathlib.Core.Bool.{false}
+use mathlib.Core.List.{map}
+use mathlib.Core.Path.{◌≡◌}
 use lib.ListN.{take, drop}
 use Rattle.definition.specs.Tests.{remap_read}
-use Rattle.definition.specs.Sheet.{record_at, remap_fields}
+use Rattle.definition.specs.Sheet.{remap_fields}
 use Rattle.records.specs.Places.{remap_from}
-use Rattle.sheet.proofs.Earlier.{skip, hit, none_left, remaps as search-remaps}
 use Rattle.sheet.proofs.repeats.remap_read.Given as goal
 
 abbrev pub invariant-entries : goal.invariant-entries

@@ -1,6 +1,6 @@
-use Prim.Native.Nat.{ℕ, ◌-◌, ◌+◌, ◌≤◌, ◌<◌}
+use Prim.Native.Nat.{ℕ, ◌+◌, ◌≤◌, ◌<◌}
 use mathlib.Core.List.{List, map}
-use mathlib.Core.Bool.{true, false}
+use mathlib.Core.Bool.{false}
 use mathlib.Core.Path.{◌≡◌, refl, ap, sym, ◌∙◌}
 use native.Mathlib.Omega.{arith}
 use borrow.Author.Rules.{rules}
@@ -74,11 +74,11 @@ loop-p-preserved c = (c.member_end-next.ensures.1, (c.loop-p.invariant.1.0, sym 
 
 pub returns-after-entries : goal.returns-after-entries
 returns-after-entries c =
-    let a = c.args in 
+    let a = c.args in
     c.entries.invariant.1.0 ∙ sym (c.entries.invariant.1.1 ∙ none_left (search-types a.s.now (record_of a.t a.b.now)) a.types.now a.n c.entries.i (omega (arith, c.requires.0)) c.entries-test.false)
 
 pub returns-after-loop-p : goal.returns-after-loop-p
-returns-after-loop-p c = 
+returns-after-loop-p c =
     sym (c.entries.invariant.1.1 ∙ hit (search-types c.args.s.now (record_of c.args.t c.args.b.now)) c.args.types.now c.args.n c.entries.i (omega (arith, c.requires.0)) c.entries-test.true
     (same _ (record_of c.args.t c.args.b.now) (sym (c.tag_of.ensures ∙ ap (λ r. (record_at r).tag) c.rest_at-rest.ensures) ∙ c.if-tag_of-t.false)
     (ap (λ (z : List ℕ). same_bytes z c.args.b.now) (sym (c.body_of-e.ensures ∙ ap (λ r. (record_at r).body) c.rest_at-rest.ensures)) ∙ sym (whole _ _ c.loop-p.p (omega (arith, c.loop-p-test.false, c.loop-p.invariant.1.0)) c.loop-p-test.false) ∙ c.loop-p.invariant.1.1)))

@@ -1,19 +1,13 @@
 -- What is left of the entries answers for all, as long as none was found. A hash, a tag, a length or a part that differs makes an
 -- entry another; one that is the same up to its last member is the one.
-use Prim.Native.Nat.{ℕ, ◌-◌, ◌+◌, ◌≤◌, ◌<◌}
-use mathlib.Core.List.{List, map}
+use Prim.Native.Nat.{◌-◌, ◌≤◌}
+use mathlib.Core.List.{map}
 use mathlib.Core.Bool.{true, false}
-use mathlib.Core.Path.{◌≡◌, refl, ap, sym, ◌∙◌}
-use native.Mathlib.Omega.{arith}
-use borrow.Author.Rules.{rules}
-use lib.ListN.{length, get_or, take, drop}
-use Rattle.definition.specs.Tests.{type_read, same_bytes, same_record}
-use Rattle.definition.specs.Sheet.{Record, record_at}
-use Rattle.records.specs.Places.{type_from, record_from}
+use mathlib.Core.Path.{◌≡◌}
+use lib.ListN.{length, take, drop}
+use Rattle.definition.specs.Tests.{type_read, same_bytes}
+use Rattle.records.specs.Places.{type_from}
 use Rattle.sheet_fields.specs.Fields.{record_of}
-use Rattle.sheet.proofs.Comparing.{other_length, part_differs, shorter, whole}
-use Rattle.sheet.proofs.Earlier.{skip, skip_to, hit, none_left, types as search-types, other_tag, other_body, same}
-use Rattle.sheet.proofs.Hashes.{other_hash}
 use Rattle.sheet.proofs.repeats.type_read.Given as goal
 
 abbrev pub invariant-loop-p : goal.invariant-loop-p

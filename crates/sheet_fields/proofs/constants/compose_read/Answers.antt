@@ -1,5 +1,4 @@
 -- The type, then the parts.
-use borrow.Author.Rules.{rules}
 use Rattle.records.proofs.Chain.{and_stop, and_go}
 use Rattle.sheet_fields.proofs.constants.compose_read.Goals as goal
 

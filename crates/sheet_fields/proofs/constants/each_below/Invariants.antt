@@ -1,12 +1,8 @@
 -- What is left of the numbers is judged as all of them are.
 use Prim.Native.Nat.{◌+◌, ◌*◌, ◌≤◌}
-use mathlib.Core.Path.{◌≡◌, refl, ◌∙◌, sym}
-use borrow.Author.Tests.{lt-ltb, le-ltb}
-use borrow.Author.Rules.{rules}
-use lib.Dec.{ltb}
+use mathlib.Core.Path.{◌≡◌}
 use Rattle.definition.specs.Tests.{below}
 use Rattle.definition.specs.Sheet.{u16s_at}
-use Rattle.sheet_fields.proofs.Each.{each_yes, each_no, each_end, numbers}
 use Rattle.sheet_fields.proofs.constants.each_below.Given as goal
 
 abbrev pub invariant-loop-k : goal.invariant-loop-k

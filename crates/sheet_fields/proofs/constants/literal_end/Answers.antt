@@ -1,6 +1,5 @@
 -- An arm for each form: with its number put in, the definition's choice computes to that arm.
 use borrow.Author.Tests.{ne_eqb}
-use borrow.Author.Rules.{rules}
 use Rattle.definition.specs.Sheet.{literal_fields}
 use Rattle.sheet_fields.proofs.constants.literal_end.Goals as goal
 

@@ -1,5 +1,4 @@
 -- A list of one.
-use borrow.Author.Rules.{rules}
 use mathlib.Core.Bool.{and-true}
 use Rattle.sheet_fields.proofs.constants.one_below.Goals as goal
 

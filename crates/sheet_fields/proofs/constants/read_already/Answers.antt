@@ -1,6 +1,5 @@
 -- An arm for each tag: with its number put in, the definition's choice computes to that arm; a list of no numbers is below any.
 use mathlib.Core.Path.{sym, ◌∙◌}
-use borrow.Author.Rules.{rules}
 use borrow.Author.Tests.{ne_eqb}
 use Rattle.definition.specs.Sheet.{constant_fields}
 use mathlib.Core.Bool.{and-true}

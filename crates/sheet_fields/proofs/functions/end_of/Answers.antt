@@ -1,7 +1,6 @@
 -- As many parameters as the byte says, two bytes each.
 use mathlib.Core.Path.{ap}
 use Prim.Native.Nat.{ℕ, ◌+◌, ◌*◌}
-use borrow.Author.Rules.{rules}
 use Rattle.definition.specs.Sheet.{function_fields}
 use Rattle.sheet_fields.proofs.functions.end_of.Goals as goal
 

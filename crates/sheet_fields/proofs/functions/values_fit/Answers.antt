@@ -1,6 +1,5 @@
 -- There are as many parameters as the byte says.
 use mathlib.Core.Path.{refl}
-use borrow.Author.Rules.{rules}
 use Rattle.definition.specs.Sheet.{function_fields}
 use Rattle.fields.proofs.Numbers.{u16s_length}
 use Rattle.sheet_fields.proofs.functions.values_fit.Goals as goal

@@ -1,7 +1,6 @@
 -- Unbound, with both answers of the first number's test; bound; and any other byte.
 use native.Mathlib.Omega.{arith}
 use borrow.Author.Tests.{ne_eqb, lt-leb}
-use borrow.Author.Rules.{rules}
 use Rattle.definition.specs.Tests.{binding_fits}
 use Rattle.definition.specs.Sheet.{global_fields}
 use Rattle.sheet_fields.proofs.globals.binding_fits.Goals as goal

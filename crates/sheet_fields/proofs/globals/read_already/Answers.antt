@@ -1,5 +1,4 @@
 -- The two tests in their order.
-use borrow.Author.Rules.{rules}
 use Rattle.definition.specs.Sheet.{global_fields}
 use Rattle.sheet_fields.proofs.globals.read_already.Goals as goal
 

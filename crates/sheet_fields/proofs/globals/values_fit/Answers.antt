@@ -1,6 +1,5 @@
 -- The two tests in their order.
 use mathlib.Core.Path.{◌∙◌, ap₂}
-use borrow.Author.Rules.{rules}
 use Rattle.definition.specs.Tests.{space_fits}
 use Rattle.definition.specs.Sheet.{global_fields}
 use Rattle.records.proofs.Chain.{and_stop, and_go}

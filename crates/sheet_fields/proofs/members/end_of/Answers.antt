@@ -1,7 +1,5 @@
-use Prim.Native.Nat.{◌+◌, ◌*◌, ◌≤◌}
-use mathlib.Core.Path.{◌≡◌, refl, ◌∙◌, sym}
+use mathlib.Core.Path.{refl, ◌∙◌, sym}
 use borrow.Author.Rules.{rules}
-use Rattle.definition.specs.Sheet.{members_end}
 use Rattle.sheet_fields.proofs.Each.{end_step, end_stop}
 use Rattle.sheet_fields.proofs.members.end_of.Goals as goal
 

@@ -1,9 +1,7 @@
 -- What is left of the members ends where the whole does.
 use Prim.Native.Nat.{◌+◌, ◌*◌, ◌≤◌}
-use mathlib.Core.Path.{◌≡◌, refl, ◌∙◌, sym}
-use borrow.Author.Rules.{rules}
+use mathlib.Core.Path.{◌≡◌}
 use Rattle.definition.specs.Sheet.{members_end}
-use Rattle.sheet_fields.proofs.Each.{end_step, end_stop}
 use Rattle.sheet_fields.proofs.members.end_of.Given as goal
 
 abbrev pub invariant-loop-k : goal.invariant-loop-k

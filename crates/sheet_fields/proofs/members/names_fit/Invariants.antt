@@ -1,13 +1,10 @@
 -- What is left of the members is judged as all of them are.
 use Prim.Native.Nat.{◌+◌, ◌*◌, ◌≤◌}
-use mathlib.Core.Path.{◌≡◌, refl, ◌∙◌, sym}
-use borrow.Author.Tests.{not-true, not-false}
-use borrow.Author.Rules.{rules}
+use mathlib.Core.Path.{◌≡◌}
 use Rattle.definition.specs.Tests.{member_names}
 use Rattle.definition.specs.Sheet.{members_at}
 use Rattle.definition.specs.Utf8.{name_fits}
 use Rattle.definition.specs.Choice.{every}
-use Rattle.sheet_fields.proofs.Each.{each_yes, each_no, each_end, names}
 use Rattle.sheet_fields.proofs.members.names_fit.Given as goal
 
 abbrev pub invariant-loop-k : goal.invariant-loop-k

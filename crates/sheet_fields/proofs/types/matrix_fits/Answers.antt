@@ -1,6 +1,5 @@
 -- The three tests in their order.
 use borrow.Author.Tests.{not-true, not-false}
-use borrow.Author.Rules.{rules}
 use Rattle.definition.specs.Sheet.{type_fields}
 use Rattle.sheet_fields.proofs.types.matrix_fits.Goals as goal
 

@@ -1,6 +1,5 @@
 -- An arm for each tag: with its number put in, the definition's choice computes to that arm; only a struct has members to look at.
 use borrow.Author.Tests.{ne_eqb}
-use borrow.Author.Rules.{rules}
 use Rattle.definition.specs.Sheet.{type_fields}
 use Rattle.sheet_fields.proofs.types.names_fit.Goals as goal
 

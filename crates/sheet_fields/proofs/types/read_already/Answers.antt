@@ -1,5 +1,4 @@
 -- An arm for each tag: with its number put in, the definition's choice computes to that arm.
-use borrow.Author.Rules.{rules}
 use borrow.Author.Tests.{ne_eqb}
 use Rattle.definition.specs.Sheet.{type_fields}
 use Rattle.sheet_fields.proofs.types.read_already.Goals as goal

@@ -1,6 +1,5 @@
 -- An arm for each tag: with its number put in, the definition's choice computes to that arm; a struct has as many members as its count byte says.
 use borrow.Author.Tests.{ne_eqb}
-use borrow.Author.Rules.{rules}
 use Rattle.definition.specs.Sheet.{type_fields}
 use Rattle.definition.proofs.Passing.{members_count}
 use Rattle.sheet_fields.proofs.types.values_fit.Goals as goal

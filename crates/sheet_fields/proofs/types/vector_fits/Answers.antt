@@ -1,5 +1,4 @@
 -- The two tests in their order.
-use borrow.Author.Rules.{rules}
 use Rattle.definition.specs.Sheet.{type_fields}
 use Rattle.sheet_fields.proofs.types.vector_fits.Goals as goal
 

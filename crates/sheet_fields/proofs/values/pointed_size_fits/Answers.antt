@@ -1,6 +1,5 @@
 -- None, or a vector's size.
 use borrow.Author.Tests.{ne_eqb}
-use borrow.Author.Rules.{rules}
 use Rattle.sheet_fields.proofs.values.pointed_size_fits.Goals as goal
 
 pub returns-then-n-eq0 : goal.returns-then-n-eq0

@@ -2,7 +2,6 @@
 use mathlib.Core.Path.{refl}
 use native.Mathlib.Omega.{arith}
 use borrow.Author.Tests.{lt-leb, ne_eqb}
-use borrow.Author.Rules.{rules}
 use Rattle.definition.specs.Tests.{scalar_fits}
 use Rattle.sheet_fields.proofs.values.scalar_fits.Goals as goal
 

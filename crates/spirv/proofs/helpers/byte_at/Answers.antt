@@ -1,7 +1,6 @@
 -- `byte_at` meets its contract. Within the slice the answer is its element, and an element is a byte; past the end the list
 -- reads as 0, by `ListN.get_or-eq_default`.
 use mathlib.Core.Path.{refl, sym}
-use native.Mathlib.Omega.{arith}
 use lib.ListN.{get_or-eq_default}
 use borrow.Author.Rules.{rules}
 use Rattle.spirv.proofs.helpers.byte_at.Goals as goal

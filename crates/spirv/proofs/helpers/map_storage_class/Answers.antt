@@ -1,6 +1,5 @@
 -- `map_storage_class` meets its contract. Each arm is told which space it has (`enum_told`); at that space the definition's
 -- choice computes to the arm's number, and `told` takes it back to the space that was passed.
-use borrow.Author.Rules.{rules}
 use Rattle.spirv.proofs.Spaces.{told}
 use Rattle.spirv.proofs.helpers.map_storage_class.Goals as goal
 

@@ -1,13 +1,9 @@
 -- `string_to_words` meets its contract. The loop's invariant is that of `put_words`, over the packed words; the word that a turn
 -- writes is theirs by `word_whole`, and the last one, behind which the bytes end, by `word_here`.
-use Prim.Native.Nat.{ℕ, ◌+◌, ◌-◌, ◌/◌, ◌≤◌}
-use mathlib.Core.Path.{◌≡◌, refl, ap, ◌∙◌}
-use native.Mathlib.Omega.{arith}
-use lib.ListN.{length, length-set}
-use borrow.Author.Rules.{rules}
+use Prim.Native.Nat.{◌-◌, ◌≤◌}
+use mathlib.Core.Path.{◌≡◌}
 use Rattle.definition.specs.Instructions.{packed}
-use Rattle.spirv.proofs.Puts.{laid_all, laid, laid-length, laid_more, nothing}
-use Rattle.spirv.proofs.Packed.{packed-length, word_whole, word_here}
+use Rattle.spirv.proofs.Puts.{laid}
 use Rattle.spirv.proofs.helpers.string_to_words.Given as goal
 
 abbrev pub invariant-loop-i : goal.invariant-loop-i

@@ -1,7 +1,6 @@
 -- The products and sums fit, since a byte is below 256; the number is then the word, byte by byte.
 use Prim.Native.Nat.{◌+◌}
 use native.Mathlib.Omega.{arith}
-use borrow.Author.Rules.{rules}
 use Rattle.spirv.proofs.Packed.{word_at}
 use Rattle.spirv.proofs.helpers.whole_word.Goals as goal
 

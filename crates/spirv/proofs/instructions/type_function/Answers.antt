@@ -1,5 +1,4 @@
 -- The words of an instruction do not tell its result id, nor its type, from its operands.
-use borrow.Author.Rules.{rules}
 use Rattle.definition.specs.Instructions.{words}
 use Rattle.spirv.proofs.instructions.type_function.Goals as goal
 

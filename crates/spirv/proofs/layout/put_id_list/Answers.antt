@@ -3,7 +3,6 @@ use Prim.Native.Nat.{ℕ, ◌+◌}
 use mathlib.Core.List.{◌++◌, map}
 use native.Mathlib.Omega.{arith}
 use lib.ListN.{length, length-append}
-use borrow.Author.Rules.{rules}
 use Rattle.spirv.specs.Heads.{head}
 use Rattle.spirv.specs.Ids.{low}
 use Rattle.spirv.proofs.Ids.{low-length}
@@ -13,15 +12,15 @@ use Rattle.spirv.proofs.layout.put_id_list.Goals as goal
 
 pub returns-then-sink-n : goal.returns-then-sink-n
 returns-then-sink-n c =
-    let a = c.args in 
+    let a = c.args in
     let l = low-length a.ids.now in
     no_room a.op (length a.operands.now + 1 + length a.ids.now) (a.operands.now ++ map low a.ids.now) a.sink.now (simp length-append (omega arith)) c.if-sink-n.true
 
 pub returns : goal.returns
 returns c =
-    let a = c.args in 
-    let w = c.put_head in 
-    let z = c.put_ids in 
+    let a = c.args in
+    let w = c.put_head in
+    let z = c.put_ids in
     let l = low-length a.ids.now in
     let at : ℕ = length a.operands.now + 1 in
     let n : ℕ = at + length a.ids.now in

@@ -3,7 +3,6 @@ use Prim.Native.Nat.{ℕ, ◌+◌}
 use mathlib.Core.List.{◌++◌}
 use native.Mathlib.Omega.{arith}
 use lib.ListN.{length, length-append}
-use borrow.Author.Rules.{rules}
 use Rattle.spirv.specs.Heads.{head}
 use Rattle.spirv.proofs.Puts.{behind}
 use Rattle.spirv.proofs.Heads.{as_plain, no_room}
@@ -11,14 +10,14 @@ use Rattle.spirv.proofs.layout.put_list.Goals as goal
 
 pub returns-then-sink-n : goal.returns-then-sink-n
 returns-then-sink-n c =
-    let a = c.args in 
+    let a = c.args in
     no_room a.op (length a.operands.now + 1 + length a.more.now) (a.operands.now ++ a.more.now) a.sink.now (simp length-append (omega arith)) c.if-sink-n.true
 
 pub returns : goal.returns
 returns c =
-    let a = c.args in 
-    let w = c.put_head in 
-    let z = c.put_words in 
+    let a = c.args in
+    let w = c.put_head in
+    let z = c.put_words in
     let at : ℕ = length a.operands.now + 1 in
     let n : ℕ = at + length a.more.now in
     as_plain a.op (a.operands.now ++ a.more.now) n (simp length-append (omega arith))

@@ -5,7 +5,6 @@ use Prim.Native.Nat.{ℕ, ◌+◌, ◌/◌}
 use mathlib.Core.List.{◌++◌}
 use native.Mathlib.Omega.{arith}
 use lib.ListN.{length, length-append}
-use borrow.Author.Rules.{rules}
 use Rattle.definition.specs.Instructions.{packed}
 use Rattle.spirv.specs.Heads.{head}
 use Rattle.spirv.proofs.Puts.{behind}
@@ -15,15 +14,15 @@ use Rattle.spirv.proofs.layout.put_name.Goals as goal
 
 pub returns-then-sink-n : goal.returns-then-sink-n
 returns-then-sink-n c =
-    let a = c.args in 
+    let a = c.args in
     let l = packed-length a.bytes.now in
     no_room a.op (length a.operands.now + 1 + (length a.bytes.now / 4 + 1)) (a.operands.now ++ packed a.bytes.now) a.sink.now (simp length-append (omega arith)) c.if-sink-n.true
 
 pub returns : goal.returns
 returns c =
-    let a = c.args in 
-    let w = c.put_head in 
-    let z = c.string_to_words in 
+    let a = c.args in
+    let w = c.put_head in
+    let z = c.string_to_words in
     let l = packed-length a.bytes.now in
     let at : ℕ = length a.operands.now + 1 in
     let n : ℕ = at + (length a.bytes.now / 4 + 1) in

@@ -3,11 +3,10 @@
 use Prim.Native.Nat.{◌+◌}
 use mathlib.Core.Path.{refl}
 use lib.ListN.{length}
-use borrow.Author.Rules.{rules}
 use Rattle.spirv.proofs.Heads.{as_plain}
 use Rattle.spirv.proofs.layout.put_plain.Goals as goal
 
 pub returns : goal.returns
 returns c =
-    let a = c.args in 
+    let a = c.args in
     as_plain a.op a.operands.now (length a.operands.now + 1) refl c.put_head.ensures

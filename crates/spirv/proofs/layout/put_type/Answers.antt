@@ -1,11 +1,10 @@
 -- `put_type` meets its contract. The words of an instruction do not tell its result id from its operands, so it is the plain one's
 -- by another name: `as_type`.
 use native.Mathlib.Omega.{arith}
-use borrow.Author.Rules.{rules}
 use Rattle.spirv.proofs.Heads.{as_type}
 use Rattle.spirv.proofs.layout.put_type.Goals as goal
 
 pub returns : goal.returns
 returns c =
-    let a = c.args in 
+    let a = c.args in
     as_type a.op a.operands.now (omega arith) c.put_plain.ensures

@@ -1,7 +1,5 @@
 -- `matrix_stride` meets its contract. Rows and width are among the nine, so their line and place are in the table (`in_table`), and
 -- the number that stands there is the formula's (`stride_at`).
-use native.Mathlib.Omega.{arith}
-use borrow.Author.Rules.{rules}
 use Rattle.definition.proofs.Strides.{in_table, stride_at}
 use Rattle.spirv.proofs.layouter.matrix_stride.Goals as goal
 

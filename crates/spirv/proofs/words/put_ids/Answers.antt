@@ -1,12 +1,10 @@
-use Prim.Native.Nat.{◌-◌, ◌≤◌}
 use mathlib.Core.List.{map}
-use mathlib.Core.Path.{◌≡◌, refl, sym, ◌∙◌}
+use mathlib.Core.Path.{refl, sym, ◌∙◌}
 use native.Mathlib.Omega.{arith}
 use lib.ListN.{length}
-use borrow.Author.Rules.{rules}
 use Rattle.spirv.specs.Ids.{low}
 use Rattle.spirv.proofs.Ids.{low-length, low_at}
-use Rattle.spirv.proofs.Puts.{nothing, laid, laid-length, laid_more, laid_all}
+use Rattle.spirv.proofs.Puts.{nothing, laid-length, laid_more, laid_all}
 use Rattle.spirv.proofs.words.put_ids.Goals as goal
 
 pub returns-then-sink-n : goal.returns-then-sink-n

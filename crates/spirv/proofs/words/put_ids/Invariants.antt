@@ -1,13 +1,9 @@
 -- As `put_words`, each id taken as a word on its way.
 use Prim.Native.Nat.{◌-◌, ◌≤◌}
 use mathlib.Core.List.{map}
-use mathlib.Core.Path.{◌≡◌, refl, sym, ◌∙◌}
-use native.Mathlib.Omega.{arith}
-use lib.ListN.{length}
-use borrow.Author.Rules.{rules}
+use mathlib.Core.Path.{◌≡◌}
 use Rattle.spirv.specs.Ids.{low}
-use Rattle.spirv.proofs.Ids.{low-length, low_at}
-use Rattle.spirv.proofs.Puts.{nothing, laid, laid-length, laid_more, laid_all}
+use Rattle.spirv.proofs.Puts.{laid}
 use Rattle.spirv.proofs.words.put_ids.Given as goal
 
 abbrev pub invariant-loop-i : goal.invariant-loop-i

@@ -1,11 +1,8 @@
 -- `put_words` meets its contract. The loop's invariant: the first i words stand at the front of the buffer, whose rest is as it
 -- was. The measure is how many words are left.
 use Prim.Native.Nat.{◌-◌, ◌≤◌}
-use mathlib.Core.Path.{◌≡◌, refl}
-use native.Mathlib.Omega.{arith}
-use lib.ListN.{length, get_or}
-use borrow.Author.Rules.{rules}
-use Rattle.spirv.proofs.Puts.{nothing, laid, laid-length, laid_more, laid_all}
+use mathlib.Core.Path.{◌≡◌}
+use Rattle.spirv.proofs.Puts.{laid}
 use Rattle.spirv.proofs.words.put_words.Given as goal
 
 abbrev pub invariant-loop-i : goal.invariant-loop-i

@@ -8,7 +8,7 @@ pub returns-then-ntypes-index : goal.returns-then-ntypes-index
 returns-then-ntypes-index c = let a = c.args in sym (ap facet_of (inner_past a.sheet.now a.types.now a.ntypes a.index c.requires c.if-ntypes-index.true))
 
 pub returns : goal.returns
-returns c = let a = c.args in 
-    let b = c.body_of.result.now in 
+returns c = let a = c.args in
+    let b = c.body_of.result.now in
     c.facet_of.ensures
     ∙ sym (ap facet_of (inner_read a.sheet.now a.types.now a.ntypes a.index c.requires c.if-ntypes-index.false c.entry_at-rest.result.now b c.tag_of.result _ c.entry_at-rest.ensures c.body_of.ensures c.tag_of.ensures refl))

@@ -15,8 +15,8 @@ returns-then-not-float_width c = simp (← c.size_fits.ensures, not-false c.size
 
 pub matrix_stride-requires : goal.matrix_stride-requires
 matrix_stride-requires c =
-    let a = c.size_fits in 
-    let b = c.float_width in 
+    let a = c.size_fits in
+    let b = c.float_width in
     both-fit a.result _ b.result _ a.ensures c.if-not-size_fits.false-raw b.ensures c.if-not-float_width.false-raw
 
 pub returns : goal.returns

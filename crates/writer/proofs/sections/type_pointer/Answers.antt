@@ -2,17 +2,16 @@
 use Rattle.writer.specs.Regions.{declarations}
 use Rattle.writer.proofs.Spelt.{put_few, put_one, pointer}
 use native.Mathlib.Omega.{arith}
-use borrow.Author.Rules.{rules}
 use Rattle.writer.proofs.sections.type_pointer.Goals as goal
 
 pub overflow_add-w : goal.overflow_add-w
 overflow_add-w c =
-    let a = c.args in 
+    let a = c.args in
     let k = pointer a.id a.class a.base c.low_word.ensures (omega (arith, c.ranges)) c.low_word-2.ensures in
     omega (arith, c.well_formed, c.requires, put_few declarations k c.requires c.type_pointer-n.ensures)
 
 pub returns : goal.returns
 returns c =
-    let a = c.args in 
+    let a = c.args in
     let k = pointer a.id a.class a.base c.low_word.ensures (omega (arith, c.ranges)) c.low_word-2.ensures in
     put_one declarations k c.requires c.type_pointer-n.ensures tt

@@ -2,7 +2,6 @@
 use Rattle.writer.specs.Regions.{declarations}
 use Rattle.writer.proofs.Spelt.{put_few, put_one, void}
 use native.Mathlib.Omega.{arith}
-use borrow.Author.Rules.{rules}
 use Rattle.writer.proofs.sections.type_void.Goals as goal
 
 pub overflow_add-w : goal.overflow_add-w

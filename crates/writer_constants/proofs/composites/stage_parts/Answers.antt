@@ -17,9 +17,9 @@ loop-i-init c = let a = c.args in (omega arith, refl, parts_none a.w a.tables.no
 
 pub loop-i-preserved : goal.loop-i-preserved
 loop-i-preserved c =
-    let a = c.args in 
-    let l = c.loop-i in 
-    let v = c.value_at-v in 
+    let a = c.args in
+    let l = c.loop-i in
+    let v = c.value_at-v in
     let p = c.stage_part in (
       omega arith,
       ap length p.ensures ∙ splice-length l.tables (waiting a.w + l.i) (v.result.id ∷ []) (omega arith) ∙ l.invariant.1,
@@ -29,8 +29,8 @@ loop-i-preserved c =
 
 pub returns : goal.returns
 returns c =
-    let a = c.args in 
-    let l = c.loop-i in 
+    let a = c.args in
+    let l = c.loop-i in
     let e : l.i ≡ a.n = omega arith in
     let cs = u16s_at a.body.now 4 a.n in
     staged a.w a.tables.now (ids_in a.w a.tables.now cs) a.n (parts-length a.w a.tables.now a.body.now a.n) c.requires.1 (λ s. ids_of s cs) (λ S s h. ids_held a.w a.tables.now S s h cs)

@@ -14,8 +14,8 @@ loop-k-init c = let a = c.args in (omega arith, refl, splice_none a.tables.now (
 
 pub loop-k-preserved : goal.loop-k-preserved
 loop-k-preserved c =
-    let a = c.args in 
-    let l = c.loop-k in 
+    let a = c.args in
+    let l = c.loop-k in
     let p = c.stage_part in (
       omega arith,
       ap length p.ensures ∙ splice-length l.tables (waiting a.w + l.k) (a.id ∷ []) (omega arith) ∙ l.invariant.1,

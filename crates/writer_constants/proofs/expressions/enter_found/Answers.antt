@@ -5,6 +5,6 @@ use Rattle.writer_constants.proofs.expressions.enter_found.Goals as goal
 
 pub returns : goal.returns
 returns c =
-    let a = c.args in 
-    let t = c.type_id-ty in 
+    let a = c.args in
+    let t = c.type_id-ty in
     let x = c.enter_value in found_entered (key_of a.t) a.kind t.result a.g a.tables.now x.result x.new.tables t.ensures x.ensures

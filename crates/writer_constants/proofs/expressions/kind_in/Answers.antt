@@ -13,10 +13,10 @@ use Rattle.writer_constants.proofs.expressions.kind_in.Goals as goal
 
 pub returns-in-16 : goal.returns-in-16
 returns-in-16 c =
-    let a = c.args in 
-    let p = c.name_end-p in 
-    let u = c.u8_at.ensures in 
-    let v = c.u8_at-in-16.ensures in 
+    let a = c.args in
+    let p = c.name_end-p in
+    let u = c.u8_at.ensures in
+    let v = c.u8_at-in-16.ensures in
     let k = c.kind_code.ensures in (
       k.0 ∙ (λ j. kind_code (some (kind_of (u j) (v j)))) ∙ sym (ap kind_code (one_kind a.tag a.d.now p.result c.in-16.is))
           ∙ ap (λ (n : ℕ). kind_code (kind_of_scalar (type_fields a.tag a.d.now n).value)) p.ensures.value,

@@ -13,9 +13,9 @@ returns-then-n-i c = let a = c.args in (sym (ap (λ (x : TypeInner). kind_code (
 
 pub returns : goal.returns
 returns c =
-    let a = c.args in 
-    let e = c.entry_at-rest in 
-    let t = c.tag_of in 
-    let b = c.body_of in 
-    let k = c.kind_in.ensures in 
+    let a = c.args in
+    let e = c.entry_at-rest in
+    let t = c.tag_of in
+    let b = c.body_of in
+    let k = c.kind_in.ensures in
     (k.0 ∙ sym (ap (λ (x : TypeInner). kind_code (kind_of_scalar x)) (inner_read a.s.now a.types.now a.n a.t c.requires (omega (arith, c.if-n-i.false)) e.result.now b.result.now t.result (name_end b.result.now 0) e.ensures b.ensures t.ensures refl)), k.1)

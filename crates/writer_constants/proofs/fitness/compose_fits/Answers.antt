@@ -14,10 +14,10 @@ returns-then-n-i c = let a = c.args in subst (λ (x : TypeInner). TestsParts (pa
 
 pub returns : goal.returns
 returns c =
-    let a = c.args in 
-    let e = c.entry_at-rest in 
-    let t = c.tag_of in 
-    let b = c.body_of in 
-    let r = c.places_fit in 
+    let a = c.args in
+    let e = c.entry_at-rest in
+    let t = c.tag_of in
+    let b = c.body_of in
+    let r = c.places_fit in
     subst (λ (x : TypeInner). TestsParts (part_places_of x) (u16s_at a.b.now 4 a.count) a.w a.tables.now r.result)
     (sym (inner_read a.s.now a.types.now a.n a.t c.requires.0 (omega (arith, c.if-n-i.false)) e.result.now b.result.now t.result (name_end b.result.now 0) e.ensures b.ensures t.ensures refl)) r.ensures

@@ -8,6 +8,6 @@ returns-then-n-size c = let a = c.args in other_count a.w a.tables.now a.b.now a
 
 pub returns : goal.returns
 returns c =
-    let a = c.args in 
-    let t = c.type_id-id in 
+    let a = c.args in
+    let t = c.type_id-id in
     let r = c.all_of_type in this_count a.w a.tables.now a.b.now a.n a.size (key_of a.t) c.if-n-size.false t.result t.ensures r.result r.ensures

@@ -15,9 +15,9 @@ use Rattle.writer_constants.proofs.fitness.expression_fits.Goals as goal
 
 pub is_zeroable-requires : goal.is_zeroable-requires
 is_zeroable-requires c =
-    let a = c.args in 
-    let p = c.requires in 
-    let t = c.in-ZeroValue.t in 
+    let a = c.args in
+    let p = c.requires in
+    let t = c.in-ZeroValue.t in
     let h = subst (λ (x : Expression). below a.ntypes (expression_types (expression_of a.body.now x)) ≡ true) c.in-ZeroValue.is p.1.0 in
     (p.0, (ltb-true t a.ntypes (both (ltb t a.ntypes) true h).0, p.1.1.1))
 

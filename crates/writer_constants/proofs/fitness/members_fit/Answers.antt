@@ -17,26 +17,26 @@ loop-k-init c = let a = c.args in let z : a.n ≡ a.n - 0 = omega arith in let e
 
 pub returns-then-n-i : goal.returns-then-n-i
 returns-then-n-i c =
-    let a = c.args in 
+    let a = c.args in
     let l = c.loop-k in λ S s h. sym (l.invariant.3 S s h ∙ parts_lack s a.d.now l.p a.b.now l.q l.k (l.k - 1) (a.n - l.i) (omega arith) (omega arith))
 
 pub returns-then-v-id : goal.returns-then-v-id
 returns-then-v-id c =
-    let a = c.args in 
-    let l = c.loop-k in 
-    let u = c.u16_at in 
-    let v = c.value_at-v in 
-    let t = c.type_id-id in 
+    let a = c.args in
+    let l = c.loop-k in
+    let u = c.u16_at in
+    let v = c.value_at-v in
+    let t = c.type_id-id in
     λ S s h. sym (l.invariant.3 S s h ∙ member_other s a.d.now l.p a.b.now l.q l.k (l.k - 1) (a.n - l.i) (a.n - (l.i + 1)) (omega arith) (omega arith) v.result.ty t.result
     (type_read_lem u.result (u16_at a.b.now l.q) a.w a.tables.now v.result v.ensures u.ensures S s h)
     (t.ensures S s h ∙ ap (λ (j : ℕ). or_else 0 (id_of s (entry j))) c.u16_at-in-loop-k.ensures) c.if-v-id.true)
 
 pub loop-k-preserved : goal.loop-k-preserved
 loop-k-preserved c =
-    let a = c.args in 
-    let l = c.loop-k in 
-    let u = c.u16_at in 
-    let v = c.value_at-v in 
+    let a = c.args in
+    let l = c.loop-k in
+    let u = c.u16_at in
+    let v = c.value_at-v in
     let t = c.type_id-id in (
       omega (arith, c.name_end-p.ensures.lower_bound),
       omega arith,
@@ -49,5 +49,5 @@ loop-k-preserved c =
 
 pub returns : goal.returns
 returns c =
-    let a = c.args in 
+    let a = c.args in
     let l = c.loop-k in λ S s h. sym (l.invariant.3 S s h ∙ members_end_lem s a.d.now l.p a.b.now l.q l.k a.n l.i (omega arith))

@@ -12,5 +12,5 @@ pub returns-then-there : goal.returns-then-there
 returns-then-there c = let a = c.args in if_there a.id a.decoration a.there c.if-there.true c.decorate.ensures
 
 pub returns : goal.returns
-returns c = let a = c.args in 
+returns c = let a = c.args in
     still (annotating 3) a.w a.sections.now (λ s. ap (λ (q : Bool). annotate_if q (decorate a.id a.decoration []) s) c.if-there.false)

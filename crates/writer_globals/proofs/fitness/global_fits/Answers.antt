@@ -12,7 +12,7 @@ use Rattle.writer_globals.proofs.fitness.global_fits.Goals as goal
 
 pub returns-in-Function : goal.returns-in-Function
 returns-in-Function c =
-    let a = c.args in 
+    let a = c.args in
     λ b. record {
       held = λ S x h.
           decided (types_from a.sheet.now a.types.now a.ntypes) x (global_of b a.global) (sym (ap (λ (y : AddressSpace). eqb (space_number y) 0) c.in-Function.is)) refl refl refl refl refl;
@@ -21,7 +21,7 @@ returns-in-Function c =
 
 pub returns-then-is_pointer : goal.returns-then-is_pointer
 returns-then-is_pointer c =
-    let a = c.args in 
+    let a = c.args in
     λ b. record {
       held = λ S x h.
           decided (types_from a.sheet.now a.types.now a.ntypes) x (global_of b a.global) (sym (not_function a.global.space c.in_default.not-Function))
@@ -31,7 +31,7 @@ returns-then-is_pointer c =
 
 pub returns-then-not-bound_space_fits : goal.returns-then-not-bound_space_fits
 returns-then-not-bound_space_fits c =
-    let a = c.args in 
+    let a = c.args in
     λ b. record {
       held = λ S x h.
           decided (types_from a.sheet.now a.types.now a.ntypes) x (global_of b a.global) (sym (not_function a.global.space c.in_default.not-Function))
@@ -42,7 +42,7 @@ returns-then-not-bound_space_fits c =
 
 pub returns-then-not-init_fits : goal.returns-then-not-init_fits
 returns-then-not-init_fits c =
-    let a = c.args in 
+    let a = c.args in
     λ b. record {
       held = λ S x h.
           decided (types_from a.sheet.now a.types.now a.ntypes) x (global_of b a.global) (sym (not_function a.global.space c.in_default.not-Function))
@@ -54,7 +54,7 @@ returns-then-not-init_fits c =
 
 pub returns-then-is_zeroed : goal.returns-then-is_zeroed
 returns-then-is_zeroed c =
-    let a = c.args in 
+    let a = c.args in
     λ b. record {
       held = λ S x h.
           decided (types_from a.sheet.now a.types.now a.ntypes) x (global_of b a.global) (sym (not_function a.global.space c.in_default.not-Function))
@@ -67,7 +67,7 @@ returns-then-is_zeroed c =
 
 pub returns : goal.returns
 returns c =
-    let a = c.args in 
+    let a = c.args in
     λ b. record {
       held = λ S x h.
           decided (types_from a.sheet.now a.types.now a.ntypes) x (global_of b a.global) (sym (not_function a.global.space c.in_default.not-Function))

@@ -13,13 +13,13 @@ pub overflow_cast-l : goal.overflow_cast-l
 overflow_cast-l c = omega (arith, c.map_storage_class-class.ensures, class_low (space_number c.args.global.space))
 
 pub returns-in-Direct : goal.returns-in-Direct
-returns-in-Direct c = let a = c.args in 
+returns-in-Direct c = let a = c.args in
     cheaper pointer_cost (omega arith) (λ s. by_direct a.form a.global c.map_storage_class-class.ensures s c.in-Direct.is) c.get_type_id.ensures
 
 pub returns-in-Wrapped : goal.returns-in-Wrapped
-returns-in-Wrapped c = let a = c.args in 
+returns-in-Wrapped c = let a = c.args in
     cheaper pointer_cost (omega arith) (λ s. by_wrapper a.form a.global c.map_storage_class-class.ensures s c.in-Wrapped.is) c.write_wrapper.ensures
 
 pub returns-in-Remapped : goal.returns-in-Remapped
-returns-in-Remapped c = let a = c.args in 
+returns-in-Remapped c = let a = c.args in
     cheaper pointer_cost (omega arith) (λ s. sym (ap (λ (x : PointerForm). pointer_by x a.global s) c.in-Remapped.is)) c.get_type_id-in-Remapped.ensures

@@ -20,5 +20,5 @@ pub type_pointer-u-requires : goal.type_pointer-u-requires
 type_pointer-u-requires c = room_pointer c.requires c.take_id-n.ensures.grown c.put_block-a.ensures.grown c.decorate_struct_member-c.ensures.grown c.type_struct-d.ensures.grown c.take_id-p.ensures.grown (c.type_struct-d.auto.sections ∙ c.decorate_struct_member-c.auto.sections ∙ c.put_block-a.auto.sections)
 
 pub returns : goal.returns
-returns c = let a = c.args in let m = c.decorate_struct_member-c in let f = c.type_id-x in 
+returns c = let a = c.args in let m = c.decorate_struct_member-c in let f = c.type_id-x in
     wrapper a.ty a.class (number_of a.stride) c.take_id-n.ensures c.put_block-a.ensures m.ensures (entry_got a.ty m.result c.put_block-a.new.tables f.result f.ensures m.new.sections) c.type_struct-d.ensures c.take_id-p.ensures c.type_pointer-u.ensures

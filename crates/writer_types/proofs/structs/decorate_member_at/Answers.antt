@@ -9,9 +9,9 @@ pub element_stride-stride-requires : goal.element_stride-stride-requires
 element_stride-stride-requires c = c.requires.0
 
 pub decorate_struct_member-requires : goal.decorate_struct_member-requires
-decorate_struct_member-requires c = let a = c.args in 
+decorate_struct_member-requires c = let a = c.args in
     member_room a.b.now a.p c.is_written-named.result c.name_part-name.ensures (omega (arith, c.type_inv.b (a.p + 6))) c.requires.1.1
 
 pub returns : goal.returns
-returns c = let a = c.args in 
+returns c = let a = c.args in
     member a.b.now a.p c.is_written-named.result c.name_part-name.ensures a.debug (types_from a.s.now a.types.now a.n) a.id a.i c.u32_at-offset.ensures c.is_written-named.ensures c.u16_at.ensures c.element_stride-stride.result c.element_stride-stride.ensures c.decorate_struct_member.ensures
