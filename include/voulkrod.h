@@ -1,10 +1,11 @@
 /* Voulkrod for C: a sheet's types, constants and globals declared in SPIR-V, and a
  * module's words listed.
  *
- * `rt staticlib exports`, run at the root of the repository, proves the code and writes
+ * `tests/staticlib`, run at the root of the repository, proves the code and writes
  * target/staticlib/libexports.a, for programs on x86-64 Linux to link. It needs memset
- * and nothing else. crates/exports is the source of it. docs/SHEET.md says what a sheet
- * is, byte by byte, what each refusal means, and what to do about it.
+ * and nothing else. crates/exports_c is the source of it, over crates/exports.
+ * docs/SHEET.md says what a sheet is, byte by byte, what each refusal means, and what to
+ * do about it.
  *
  * What every call asks of its caller:
  *   sheet    points to `length` bytes that nothing writes to during the call. It is not

@@ -1,5 +1,5 @@
-//! The compiled code, called in this process: the four functions of crates/exports
-//! as `rt staticlib exports` writes them. The driver is linked with them under
+//! The compiled code, called in this process: the four functions of crates/exports_c
+//! as tests/staticlib has them built. The driver is linked with them under
 //! `--cfg compiled`; without it there are two sides and not three.
 //!
 //! `Slip` lists what can be changed in an answer after the call; the run has to
