@@ -479,11 +479,19 @@ fn replay(lines: &[Line], fault: Option<&str>) -> bool {
     tally.wrong.is_empty() && unreached.is_empty() && tally.fit > 0
 }
 
+/// How long a call is watched, and how long one that was never within its bar: a machine that others use too is slow for
+/// seconds at a time.
+const WATCHED: Duration = Duration::from_millis(40);
+const WATCHED_AT_MOST: Duration = Duration::from_secs(15);
+
 /// The shortest time of a call, in seconds.
-fn shortest<T>(mut call: impl FnMut() -> T) -> f64 {
+fn shortest<T>(bar: f64, mut call: impl FnMut() -> T) -> f64 {
     let (mut best, mut calls) = (f64::MAX, 0);
     let start = Instant::now();
-    while calls < 50 || (calls < 2_000 && start.elapsed() < Duration::from_millis(40)) {
+    while calls < 50
+        || (calls < 2_000 && start.elapsed() < WATCHED)
+        || (best > bar && start.elapsed() < WATCHED_AT_MOST)
+    {
         let began = Instant::now();
         black_box(call());
         best = best.min(began.elapsed().as_secs_f64());
@@ -500,16 +508,16 @@ fn usual_work(bytes: &[u8]) -> u32 {
 /// The longest that a call may take here, in seconds.
 fn longest() -> f64 {
     let bytes = [7; 16_384];
-    LONGEST * (shortest(|| usual_work(black_box(&bytes))) / USUAL).max(1.0)
+    LONGEST * (shortest(USUAL, || usual_work(black_box(&bytes))) / USUAL).max(1.0)
 }
 
 /// Check, Declare and Wrapped of the first global, in seconds, and the module's words.
-fn times_of(sheet: &[u8], words: &mut [u32]) -> ([f64; 3], usize) {
+fn times_of(bar: f64, sheet: &[u8], words: &mut [u32]) -> ([f64; 3], usize) {
     let number = voulkrod::declare(sheet, words);
     let times = [
-        shortest(|| voulkrod::check(black_box(sheet))),
-        shortest(|| voulkrod::declare(black_box(sheet), words)),
-        shortest(|| voulkrod::wrapped(black_box(sheet), 0)),
+        shortest(bar, || voulkrod::check(black_box(sheet))),
+        shortest(bar, || voulkrod::declare(black_box(sheet), words)),
+        shortest(bar, || voulkrod::wrapped(black_box(sheet), 0)),
     ];
     (times, if number >> 32 == 0 { 0 } else { number as u32 as usize })
 }
@@ -534,14 +542,14 @@ fn times(lines: &[Line], folder: &str) -> bool {
     println!("| sheet | bytes | words | Check, us | Declare, us | Wrapped, us |");
     println!("|---|---|---|---|---|---|");
     for (index, (what, sheet)) in worst::sheets().into_iter().enumerate() {
-        print(what, sheet.len(), times_of(&sheet, &mut words));
+        print(what, sheet.len(), times_of(longest, &sheet, &mut words));
         let path = format!("{folder}/worst{index:02}.sheet");
         std::fs::write(&path, &sheet).unwrap_or_else(|e| panic!("{path}: {e}"));
     }
     let fits = |l: &&Line| matches!(l.answer, Answer::Words(_) | Answer::Refused(16));
     let long = |l: &&Line| l.sheet.len() > 16_000 && !matches!(l.asks, Asks::List { .. });
     let long: Vec<_> = lines.iter().filter(long).filter(fits).collect();
-    let slowest = long.iter().map(|line| (line, times_of(&line.sheet, &mut words)));
+    let slowest = long.iter().map(|line| (line, times_of(longest, &line.sheet, &mut words)));
     let by_declare = |(_, (times, _)): &(_, ([f64; 3], usize))| (times[1] * 1e9) as u64;
     if let Some((line, times)) = slowest.max_by_key(by_declare) {
         let what = format!("the slowest of {} lines' sheets of over 16,000 bytes", long.len());
