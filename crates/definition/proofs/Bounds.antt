@@ -20,10 +20,10 @@ use Rattle.definition.proofs.Marks.{GoodName, Spelled}
 
 -- ---- numbers
 
-pub under-get_or : (B : ℕ) (xs : List ℕ) (i : ℕ) → Under B xs → get_or xs i 0 ≤ B
-under-get_or B [] i h = omega arith
-under-get_or B (x ∷ xs) zero h = h.0
-under-get_or B (x ∷ xs) (suc i) h = under-get_or B xs i h.1
+pub under_get_or : (B : ℕ) (xs : List ℕ) (i : ℕ) → Under B xs → get_or xs i 0 ≤ B
+under_get_or B [] i h = omega arith
+under_get_or B (x ∷ xs) zero h = h.0
+under_get_or B (x ∷ xs) (suc i) h = under_get_or B xs i h.1
 
 pub under-take : (B n : ℕ) (xs : List ℕ) → Under B xs → Under B (take n xs)
 under-take B zero xs h = tt
@@ -37,7 +37,7 @@ under_drop B (suc n) (x ∷ xs) h = under_drop B n xs h.1
 
 module _ (b : List ℕ) (h : Under 255 b) where
   pub u8_small : (i : ℕ) → u8_at b i ≤ 255
-  u8_small i = under-get_or 255 b i h
+  u8_small i = under_get_or 255 b i h
 
   pub u16_small : (i : ℕ) → u16_at b i ≤ 65535
   unfolding u16_at

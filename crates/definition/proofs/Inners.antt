@@ -19,7 +19,7 @@ use Rattle.definition.specs.Shapes.{sint, uint, float, bool, one, many, value_po
 use Rattle.definition.specs.Rules.{inner_at, column_stride, has_stride, matrix_stride, element_of}
 use Rattle.definition.specs.WellDeclared.{plain_type, plain_entry}
 use Rattle.definition.proofs.ByShape.{plain_scalar}
-use Rattle.definition.proofs.Truth.{both_true, every-get_or, pick_le, pick_for}
+use Rattle.definition.proofs.Truth.{both_true, every_get_or, pick_le, pick_for}
 use Rattle.definition.proofs.Sizes.{W, SmallKind, SmallShape}
 use Rattle.definition.proofs.Finding.{named}
 use Rattle.definition.proofs.Marks.{GoodName}
@@ -87,7 +87,7 @@ small_kind_lem bool t = tt
 format_small : (x : ℕ) → ((format_at x).number ≤ 255) × SmallKind (format_at x).kind
 unfolding small_format small_kind
 format_small x =
-    let t = every-get_or small_format formats x (floating ImageFormatUnknown) all_small tt in
+    let t = every_get_or small_format formats x (floating ImageFormatUnknown) all_small tt in
     let q = both_true (leb (format_at x).number 255) (small_kind (format_at x).kind) t in
     (leb→le (format_at x).number 255 q.0, small_kind_lem (format_at x).kind q.1)
 

@@ -35,10 +35,10 @@ every_one P (y ∷ ys) t x m =
     go p f (inl e) = rw e p
     go p f (inr n) = f n
 
-pub every-get_or : {A : Type 0} (P : A → Bool) (xs : List A) (i : ℕ) (d : A) → T (every P xs) → T (P d) → T (P (get_or xs i d))
-every-get_or P [] i d h t = t
-every-get_or P (x ∷ xs) zero d h t = (both_true (P x) (every P xs) h).0
-every-get_or P (x ∷ xs) (suc i) d h t = every-get_or P xs i d (both_true (P x) (every P xs) h).1 t
+pub every_get_or : {A : Type 0} (P : A → Bool) (xs : List A) (i : ℕ) (d : A) → T (every P xs) → T (P d) → T (P (get_or xs i d))
+every_get_or P [] i d h t = t
+every_get_or P (x ∷ xs) zero d h t = (both_true (P x) (every P xs) h).0
+every_get_or P (x ∷ xs) (suc i) d h t = every_get_or P xs i d (both_true (P x) (every P xs) h).1 t
 
 -- ---- a choice between two numbers, and between two facts
 

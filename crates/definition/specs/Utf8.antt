@@ -1,11 +1,11 @@
 -- UTF-8 by RFC 3629, section 4, row by row ("a name is not UTF-8 (RFC 3629) or holds a zero byte"):
---   UTF8-octets = *( utf8_char )
---   utf8_char   = UTF8-1 / UTF8-2 / UTF8-3 / UTF8-4
+--   UTF8-octets = *( UTF8-char )
+--   UTF8-char   = UTF8-1 / UTF8-2 / UTF8-3 / UTF8-4
 --   UTF8-1      = %x00-7F
---   UTF8-2      = %xC2-DF utf8_tail
---   UTF8-3      = %xE0 %xA0-BF utf8_tail / %xE1-EC 2( utf8_tail ) / %xED %x80-9F utf8_tail / %xEE-EF 2( utf8_tail )
---   UTF8-4      = %xF0 %x90-BF 2( utf8_tail ) / %xF1-F3 3( utf8_tail ) / %xF4 %x80-8F 2( utf8_tail )
---   utf8_tail   = %x80-BF
+--   UTF8-2      = %xC2-DF UTF8-tail
+--   UTF8-3      = %xE0 %xA0-BF UTF8-tail / %xE1-EC 2( UTF8-tail ) / %xED %x80-9F UTF8-tail / %xEE-EF 2( UTF8-tail )
+--   UTF8-4      = %xF0 %x90-BF 2( UTF8-tail ) / %xF1-F3 3( UTF8-tail ) / %xF4 %x80-8F 2( UTF8-tail )
+--   UTF8-tail   = %x80-BF
 use Rattle.std.specs.Prelude.{ℕ, Bool, true, false, ◌&&◌, List, [], ◌∷◌, leb}
 use Rattle.std.proofs.Math.Option.{Option, some, none}
 use Rattle.definition.specs.Bytes.{Name}

@@ -24,7 +24,7 @@ fn put_answers(sheet: &[u8], text: &mut [u8]) -> usize
     ensures { Printed (answers sheet.now) text.old text.new result }
 {
     let mut at = 0;
-    let mut i = 0;
+    let mut i: usize = 0;
     let mut left = GLOBALS_MOST;
     while left > 0 {
         match declarations::wrapped(sheet, i) {

@@ -24,7 +24,7 @@ entries-preserved c =
     let lt = c.entries-test.true in (
       omega (arith, lt),
       l.invariant.1
-          ∙ other_binding a.sheet.now a.remaps.now a.nremaps a.group a.binding l.k c.requires lt (remap_as c.remap_at-m.result) c.remap_at-m.ensures c.if-m-group.false c.if-m-binding.true,
+          ∙ other_binding a.sheet.now a.remaps.now a.nremaps a.group a.binding l.k c.requires lt (remap_as c.remap_at-m.result) c.remap_at-m.ensures c.if-m-group.false (omega arith),
     )
 
 pub returns-in-entries : goal.returns-in-entries
@@ -34,7 +34,7 @@ returns-in-entries c =
     let lt = c.entries-test.true in
     sym
     (l.invariant.1
-    ∙ this_one a.sheet.now a.remaps.now a.nremaps a.group a.binding l.k c.requires lt (remap_as c.remap_at-m.result) c.remap_at-m.ensures c.if-m-group.false c.if-m-binding.false)
+    ∙ this_one a.sheet.now a.remaps.now a.nremaps a.group a.binding l.k c.requires lt (remap_as c.remap_at-m.result) c.remap_at-m.ensures c.if-m-group.false (omega arith))
 
 pub returns : goal.returns
 returns c =
