@@ -15,8 +15,8 @@
  *            call. It is not null and is aligned to 4 bytes, even where words_length is
  *            0, and no word of it lies among the bytes of the sheet.
  *   list     as words, and no word of it lies among the words that are listed.
- *   stack    VOULKROD_STACK bytes are enough. Measured were 19 KB for sheets of up to 128
- *            bytes, 54 KB for up to 512, 122 KB for up to 1,280, 269 KB for up to 4,096 and
+ *   stack    VOULKROD_STACK bytes are enough. Measured were 21 KB for sheets of up to 128
+ *            bytes, 56 KB for up to 512, 124 KB for up to 1,280, 270 KB for up to 4,096 and
  *            0.71 MB for longer ones. On less, a call ends at the stack's guard page.
  *            Nothing is allocated elsewhere.
  *
