@@ -34,8 +34,8 @@ const MOST: f64 = 1_000.0;
 const USUAL: f64 = 250.0;
 /// Of each side of a sheet, in turn.
 const ROUNDS: usize = 60;
-/// How often one of the required three is measured at most: where others use the machine too, all rounds of once can be
-/// slow ones of one side. The least of all counts.
+/// How often a sheet that is over a bar is measured at most: where others use the machine too, all rounds of once can be
+/// slow ones. The least of all counts.
 const TIMES: usize = 6;
 /// What a round of one side takes, in seconds.
 const ROUND: f64 = 0.000_5;
@@ -114,6 +114,23 @@ fn measure(what: &str, sheet: &[u8], words: &mut [u32]) -> Measured {
     Measured { compiled: best[0], rust: best[1], writer: best[2] }
 }
 
+/// The same of a sheet that has to be within a bar, again while it is not.
+fn measure_within(
+    what: &str,
+    sheet: &[u8],
+    words: &mut [u32],
+    within: impl Fn(&Measured) -> bool,
+) -> Measured {
+    let mut m = measure(what, sheet, words);
+    for _ in 1..TIMES {
+        if within(&m) {
+            break;
+        }
+        m = m.or_less(&measure(what, sheet, words));
+    }
+    m
+}
+
 /// Microseconds of a module's list and of Declare for its sheet, and the list's length.
 fn measure_list(what: &str, sheet: &[u8], words: &mut [u32]) -> (f64, f64, usize) {
     let count = count(sheet, words);
@@ -181,12 +198,7 @@ fn main() {
     let mut ratios = Vec::new();
     let mut most = MOST; // by the last of the three, the full one
     for (what, sheet) in &three {
-        let mut m = measure(what, sheet, words);
-        let mut times = 1;
-        while m.ratio() > RATIO && times < TIMES {
-            m = m.or_less(&measure(what, sheet, words));
-            times += 1;
-        }
+        let m = measure_within(what, sheet, words, |m| m.ratio() <= RATIO);
         row(sheet, count(sheet, words), &m, what);
         ratios.push((m.ratio(), *what));
         most = MOST * (m.rust / USUAL).max(1.0);
@@ -217,7 +229,7 @@ fn main() {
     heading();
     let mut worst_ratio: (f64, &str) = (0.0, "");
     for (what, sheet) in sheets::worst() {
-        let m = measure(what, &sheet, words);
+        let m = measure_within(what, &sheet, words, |m| m.compiled < most);
         row(&sheet, count(&sheet, words), &m, what);
         if m.compiled > slowest.0 {
             slowest = (m.compiled, what);
@@ -230,9 +242,17 @@ fn main() {
     for (what, sheet, due) in sheets::refused() {
         let answer = declare(&sheet, words);
         assert!(answer == due, "Declare answers {answer:#x}, not {due}: {what}");
-        let best = least(&mut [&mut || {
-            black_box(declare(black_box(&sheet), words));
-        }])[0];
+        let mut best = f64::MAX;
+        for _ in 0..TIMES {
+            best = best.min(
+                least(&mut [&mut || {
+                    black_box(declare(black_box(&sheet), words));
+                }])[0],
+            );
+            if best < most {
+                break;
+            }
+        }
         println!("{:7} {:>7} {best:10.2}   {what}", sheet.len(), format!("no {due}"));
         if best > slowest.0 {
             slowest = (best, what);
