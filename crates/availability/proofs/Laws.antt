@@ -1,68 +1,29 @@
--- The laws of test 14: the loop over the numbers of an Available record, what a record changes, and what is asked of a shape. The
--- loop keeps that the numbers which are left answer as all do (`Going`): so it is at the start, a number that differs keeps it, one
--- that is equal answers true and the end false. A list in two parts is asked part by part (`every_both`), and of what a shape's rules
--- check the flags answer as the definition does (`as_flagged`).
-use Prim.Native.Nat.{ℕ, zero, suc, ◌+◌, ◌-◌, ◌*◌, ◌≤◌, ◌<◌, ◌/◌}
+-- The laws of test 14: what a record changes, and what is asked of a shape. A list in two parts is asked part by part (`every_both`),
+-- and of what a shape's rules check the flags answer as the definition does (`as_flagged`).
+use Prim.Native.Nat.{ℕ}
 use mathlib.Core.Path.{◌≡◌, refl, sym, ap, ◌∙◌}
-use mathlib.Core.Bool.{Bool, true, false, ◌&&◌}
-use mathlib.Core.List.{List, [], ◌∷◌, ◌++◌}
-use mathlib.Core.Option.{Option, some}
-use native.Mathlib.Omega.{arith}
-use borrow.Author.Tests.{eq-eqb, ne_eqb}
+use mathlib.Core.Bool.{Bool, true, ◌&&◌}
+use mathlib.Core.List.{List, [], ◌∷◌}
+use Rattle.std.specs.Prelude.{Option, Some}
+use borrow.Author.Tests.{ne_eqb}
 use lib.Dec.{eqb}
-use lib.ListN.{length}
-use Rattle.definition.specs.Choice.{pick, among, every}
+use Rattle.definition.specs.Choice.{among, every}
 use Rattle.definition.specs.Numbers.{Dim1D, DimCube}
-use Rattle.definition.specs.Bytes.{u32_at}
-use Rattle.definition.specs.Sheet.{Record, Fields, Entry, TypeInner, u32s_at, tag_rank, entry_of, available_fields, type_fields}
+use Rattle.definition.specs.Sheet.{Record, Fields, Entry, TypeInner, tag_rank, entry_of, available_fields, type_fields}
 use Rattle.definition.specs.Tests.{Seen, add, add_record}
-use Rattle.definition.specs.Shapes.{Kind, Shape, scalar, vector, matrix, pointer, value_pointer, image, sampler, acceleration_structure, ray_query, binding_array, binding_pointer}
+use Rattle.definition.specs.Shapes.{Shape, scalar, vector, matrix, pointer, value_pointer, image, sampler, acceleration_structure, ray_query, binding_array, binding_pointer}
 use Rattle.definition.specs.Shapes.{shape_of as defined_shape}
 use Rattle.definition.specs.Finding.{extended_formats, format_capabilities, dim_capabilities}
 use Rattle.definition.specs.Unfit.{checked_capabilities, is_available, shape_available}
 use Rattle.definition.proofs.Truth.{pick_for}
 use Rattle.records.proofs.Chain.{every_both}
-use Rattle.lookup.specs.declared.VectorSize.{VectorSize}
-use Rattle.lookup.specs.declared.VectorSize.TheVariants.{Nothing as One, Of as Many}
-use Rattle.lookup.specs.declared.PointerSpace.{PointerSpace}
-use Rattle.lookup.specs.declared.PointerSpace.TheVariants.{Nothing as Nowhere, Of as Class}
-use Rattle.lookup.specs.declared.Capabilities.{Capabilities}
-use Rattle.lookup.specs.Local.{value_of, as_list}
 use Rattle.availability.specs.declared.Available.{Available}
 use Rattle.availability.specs.Flags.{Flagged, flag_of}
-
--- ---- the loop
-
-module _ (cap : ℕ) (b : List ℕ) where
-  -- so many numbers are left, from a place on
-  pub record Going (at left : ℕ) : Type 0 where
-    pub inside : at + 4 * left ≤ length b
-    pub rest : among cap (available_fields b).value ≡ among cap (u32s_at b at left)
-
-  pub starts : (n : ℕ) → n ≡ length b / 4 → Going 0 n
-  unfolding available_fields
-  starts n e = record { inside = omega arith; rest = ap (λ (k : ℕ). among cap (u32s_at b 0 k)) (sym e) }
-
-  -- the number at the place, then the others
-  module _ {at left : ℕ} (g : Going at left) (some : 0 < left) where
-    next : among cap (available_fields b).value ≡ pick (eqb cap (u32_at b at)) true (among cap (u32s_at b (at + 4) (left - 1)))
-    unfolding u32s_at
-    next = let e : left ≡ suc (left - 1) = omega arith in g.rest ∙ ap (λ (k : ℕ). among cap (u32s_at b at k)) e
-
-    pub found : cap ≡ u32_at b at → true ≡ among cap (available_fields b).value
-    found h = sym (next ∙ rw (eq-eqb cap (u32_at b at) h))
-
-    pub turn : (cap ≡ u32_at b at → ⊥) → Going (at + 4) (left - 1)
-    turn h = record { inside = omega arith; rest = next ∙ rw (ne_eqb cap (u32_at b at) h) }
-
-  pub ended : {at left : ℕ} → Going at left → left ≤ 0 → false ≡ among cap (available_fields b).value
-  unfolding u32s_at
-  ended {at} {left} g h = let e : left ≡ 0 = omega arith in sym (g.rest ∙ ap (λ (k : ℕ). among cap (u32s_at b at k)) e)
 
 -- ---- what a record changes
 
 -- Available's own list takes the place of what was available
-pub lists : (n : Seen) (r : Record) → tag_rank r.tag ≡ 1 → (add_record n r).available ≡ some (available_fields r.body).value
+pub lists : (n : Seen) (r : Record) → tag_rank r.tag ≡ 1 → (add_record n r).available ≡ Some (available_fields r.body).value
 unfolding add_record add entry_of
 lists n r e = rw e
 
@@ -76,33 +37,6 @@ keeps n r h = rw (ne_eqb _ _ h) (pick_for Kept (eqb q 2) _ _ refl (pick_for Kept
 
     Kept : Fields Entry → Type 0
     Kept f = (add n (tag_rank r.tag) f.value).available ≡ n.available
-
--- ---- what is asked of a shape
-
--- a test of one number, or of none
-alone : (P : ℕ → Bool) (x : ℕ) → P x ≡ every P (x ∷ [])
-alone P x = go (P x)
-  where
-    go : (t : Bool) → t ≡ (t && true)
-    go true = refl
-    go false = refl
-
-one_or_none : (a : Available) (x : ℕ) → flag_of a x ≡ every (flag_of a) (as_list x)
-one_or_none a zero = refl
-one_or_none a (suc x) = rw (ne_eqb (suc x) 0 (λ e. omega arith)) (alone (flag_of a) (suc x))
-
--- of two capabilities the first is asked, then the second
-pub in_turn : (a : Available) (k : Capabilities) (xs : List ℕ) (t : Bool) → as_list k.first ++ as_list k.second ≡ xs
-    → flag_of a k.first ≡ t → (t && flag_of a k.second) ≡ every (flag_of a) xs
-in_turn a k xs t e h =
-    (λ i. sym h i && one_or_none a k.second i) ∙ ap (λ (u : Bool). u && every (flag_of a) (as_list k.second)) (one_or_none a k.first)
-    ∙ sym (every_both (flag_of a) (as_list k.first) (as_list k.second)) ∙ ap (every (flag_of a)) e
-
--- nothing is asked of a value: a scalar's capabilities are used unasked, and a vector and a pointer have none
-pub of_value : (z : VectorSize) (k : Kind) (c : PointerSpace) → [] ≡ checked_capabilities (value_of z k c)
-of_value One k Nowhere = refl
-of_value (Many n) k Nowhere = refl
-of_value z k (Class c) = refl
 
 -- ---- the flags answer as the definition does
 

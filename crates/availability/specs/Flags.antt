@@ -1,6 +1,6 @@
 -- What is available, as the program keeps it: a flag for each capability that a rule checks.
 use Rattle.std.specs.Prelude.{ℕ, ◌≡◌, Bool, true, List, eqb}
-use Rattle.std.proofs.Math.Option.{Option}
+use Rattle.std.specs.Prelude.{Option}
 use Rattle.definition.specs.Choice.{pick}
 use Rattle.definition.specs.Numbers.{CapabilityImageCubeArray, CapabilitySampled1D, CapabilityImage1D, CapabilitySampledCubeArray, CapabilityStorageImageExtendedFormats, CapabilityRayQueryKHR}
 use Rattle.definition.specs.Unfit.{is_available}

@@ -27,17 +27,16 @@ use Rattle.records.specs.Places.{Places, places_of, Ample, types_from, global_fr
 use Rattle.entries.specs.declared.globals.GlobalVariable.{GlobalVariable}
 use Rattle.entries.specs.Globals.{GlobalTakenFrom}
 use Rattle.writer.specs.declared.Writer.{Writer}
-use Rattle.sheet_writer.specs.declared.Outcome.{Outcome}
-use Rattle.sheet_writer.specs.declared.Outcome.TheVariants.{Refused, Fit}
+use Rattle.std.specs.Prelude.{Result, Ok, Err}
+use Rattle.refusals.specs.declared.Refusal.{Refusal}
+use Rattle.refusals.specs.declared.Refusal.TheVariants.{Bound, NoGlobal, BufferLength}
+use Rattle.refusals.specs.Numbers.{number_of}
+use Rattle.refusals.proofs.Tests.{sixteen}
 use Rattle.sheet_writer.specs.Whole.{before_bound, Capacity, SheetWritten}
-use Rattle.module_layout.specs.declared.Answer.{Answer}
-use Rattle.module_layout.specs.declared.Answer.TheVariants.{Written as Wrote, Refused as Refuses}
+use Rattle.module_layout.specs.declared.Module.{Module}
 use Rattle.module_layout.specs.Finished.{answer_of, declared_as, Worded, Roomy, CountFits, Finished}
 use Rattle.declarations.specs.Promise.{DeclarePromise, CheckPromise, WrappedPromise, verdict_as, wrapping_as}
 use Rattle.declarations.specs.Stages.{Lent, Roomed, Ended, PlacesStand, Standing, WrappedAs, verdict_from}
-use Rattle.declarations.specs.declared.Verdict.TheVariants as program
-use Rattle.declarations.specs.declared.Wrapping.{Wrapping as Answered}
-use Rattle.declarations.specs.declared.Wrapping.TheVariants as wraps
 
 -- ---- the bytes of a slice are bytes
 
@@ -51,9 +50,9 @@ all_bytes (x ∷ s) f b m = go (Memᴰ.cases_cons m) (λ n. all_bytes s (λ i. f
 
 -- ---- Declare
 
-counted_small : (a : Answer) (m bound : ℕ) → CountFits a → answer_of a ≡ Meant.Written m bound → m < 4294967296
-counted_small (Wrote n b) m bound c e = let q : n ≡ m = cc in omega arith
-counted_small (Refuses n) m bound c e = let z : ◌≡◌ {A = ℕ} 0 1 = cc in absurd (omega arith)
+counted_small : (a : Result Module Refusal) (m bound : ℕ) → CountFits a → answer_of a ≡ Meant.Written m bound → m < 4294967296
+counted_small (Ok x) m bound c e = let q : x.words ≡ m = cc in omega arith
+counted_small (Err r) m bound c e = let z : ◌≡◌ {A = ℕ} 0 1 = cc in absurd (omega arith)
 
 module _ (s : List ℕ) where
   is_judged : judged s ≡ bound_test (before_bound s)
@@ -64,7 +63,7 @@ module _ (s : List ℕ) where
   worded : IsBytes s → (p : Progress) → fit p ≡ before_bound s → Worded p.state
   worded bytes p e l = fit_words s bytes p (is_judged ∙ ap bound_test (sym e) ∙ rw (le-leb (bound_of p.state) bound_most l))
 
-  module _ (b : List ℕ) (a : Answer) (after : List ℕ) where
+  module _ (b : List ℕ) (a : Result Module Refusal) (after : List ℕ) where
     as_declared : (j : Judged Progress) → j ≡ before_bound s → declared_as a after ≡ declared_of b (bound_test j) → declared_as a after ≡ declare s b
     unfolding declare
     as_declared j f e = e ∙ sym (ap (declared_of b) (is_judged ∙ ap bound_test (sym f)))
@@ -80,9 +79,9 @@ module _ (s : List ℕ) where
     refused_small : (n m bound : ℕ) → answer_of a ≡ Meant.Refused n → answer_of a ≡ Meant.Written m bound → m < 4294967296
     refused_small n m bound e f = let z : ◌≡◌ {A = ℕ} 0 1 = cc in absurd (omega arith)
 
-    pub declared : (bytes : ℕ) (p : Places) (T S : List ℕ) (o : Outcome) → IsBytes s → SheetWritten s bytes p T S o → Ended S o b a after → DeclarePromise s b a after
-    declared nb p T S (Refused n) bytes c e = kept bytes (λ m bound w. refused_small n m bound (ap (λ (d : Declared). d.answer) e) w) (as_declared (refused n) c e)
-    declared nb p T S (Fit k w) bytes c e = kept bytes (λ m bound. counted_small a m bound e.counted) (as_declared (fit c.progress) c.same (e.says c.progress T c.held (worded bytes c.progress c.same)))
+    pub declared : (bytes : ℕ) (p : Places) (T S : List ℕ) (o : Result (Counts × Writer) Refusal) → IsBytes s → SheetWritten s bytes p T S o → Ended S o b a after → DeclarePromise s b a after
+    declared nb p T S (Err r) bytes c e = kept bytes (λ m bound w. refused_small (number_of r) m bound (ap (λ (d : Declared). d.answer) e) w) (as_declared (refused (number_of r)) c e)
+    declared nb p T S (Ok (k, w)) bytes c e = kept bytes (λ m bound. counted_small a m bound e.counted) (as_declared (fit c.progress) c.same (e.says c.progress T c.held (worded bytes c.progress c.same)))
 
 -- ---- the scratch of the operations themselves: zeros, as many as a sheet can fill
 
@@ -98,19 +97,19 @@ pub ample : Ample (places_of (replicate 64 0) (replicate 512 0) (replicate 256 0
 ample = record { remaps = simp length-replicate (omega arith); types = simp length-replicate (omega arith); constants = simp length-replicate (omega arith); globals = simp length-replicate (omega arith) }
 
 -- the sections have room for what is in use
-pub roomed : (s : List ℕ) (bytes : ℕ) (p : Places) (T S : List ℕ) (o : Outcome) → SheetWritten s bytes p T S o → bytes ≤ 65536 → Roomed S o
-roomed s bytes p T S (Refused n) c h = tt
-roomed s bytes p T S (Fit k w) c h = record { room = c.room.words; few = omega (arith, c.size) }
+pub roomed : (s : List ℕ) (bytes : ℕ) (p : Places) (T S : List ℕ) (o : Result (Counts × Writer) Refusal) → SheetWritten s bytes p T S o → bytes ≤ 65536 → Roomed S o
+roomed s bytes p T S (Err r) c h = tt
+roomed s bytes p T S (Ok (k, w)) c h = record { room = c.room.words; few = omega (arith, c.size) }
 
 -- where the outcome is known
-module _ (S : List ℕ) (o : Outcome) where
-  pub roomy : (k : Counts) (w : Writer) → o ≡ Fit k w → Roomed S o → Roomy w S
+module _ (S : List ℕ) (o : Result (Counts × Writer) Refusal) where
+  pub roomy : (k : Counts) (w : Writer) → o ≡ Ok (k, w) → Roomed S o → Roomy w S
   roomy k w e h = subst (Roomed S) e h
 
-  pub ended_refused : (n : ℕ) (b : List ℕ) → o ≡ Refused n → Ended S o b (Refuses n) b
-  ended_refused n b e = rw e refl
+  pub ended_refused : (r : Refusal) (b : List ℕ) → o ≡ Err r → Ended S o b (Err r) b
+  ended_refused r b e = rw e refl
 
-  pub ended_fit : (k : Counts) (w : Writer) (b : List ℕ) (a : Answer) (after : List ℕ) → o ≡ Fit k w → Finished w S b a after → Ended S o b a after
+  pub ended_fit : (k : Counts) (w : Writer) (b : List ℕ) (a : Result Module Refusal) (after : List ℕ) → o ≡ Ok (k, w) → Finished w S b a after → Ended S o b a after
   ended_fit k w b a after e f = rw e f
 
 -- ---- Check
@@ -119,25 +118,22 @@ five_words : (s : State) → 5 ≤ length (module_words s)
 unfolding module_words
 five_words s = omega arith
 
-pub checked : (s b : List ℕ) (a : Answer) (after : List ℕ) → length b < 5 → declared_as a after ≡ declare s b → CheckPromise s (verdict_from a)
+pub checked : (s b : List ℕ) (a : Result Module Refusal) (after : List ℕ) → length b < 5 → declared_as a after ≡ declare s b → CheckPromise s (verdict_from a)
 unfolding declare check
 checked s b a after l e = let q = go (judged s) (judged_known s) a (ap (λ (d : Declared). d.answer) e) in record { answered = rw q (check_answers s); same = q }
   where
-    short : (x : Answer) → answer_of x ≡ Meant.Refused 16 → verdict_as (verdict_from x) ≡ Verdict.Fit
-    short (Wrote m bound) f = let z : ◌≡◌ {A = ℕ} 0 1 = cc in absurd (omega arith)
-    short (Refuses m) f = let q : m ≡ 16 = cc in rw (eq-eqb m 16 q)
+    short : (x : Result Module Refusal) → answer_of x ≡ Meant.Refused 16 → verdict_as (verdict_from x) ≡ Verdict.Fit
+    short (Ok m) f = let z : ◌≡◌ {A = ℕ} 0 1 = cc in absurd (omega arith)
+    short (Err r) f = let q : number_of r ≡ 16 = cc in rw (eq-eqb (number_of r) 16 q)
 
-    go : (j : Judged Progress) → Known j → (x : Answer) → answer_of x ≡ (declared_of b j).answer → verdict_as (verdict_from x) ≡ verdict_of j
-    go (refused n) k (Wrote m bound) f = let z : ◌≡◌ {A = ℕ} 0 1 = cc in absurd (omega arith)
-    go (refused n) k (Refuses m) f = let q : m ≡ n = cc in rw (ne_eqb m 16 (λ g. omega arith), q)
+    go : (j : Judged Progress) → Known j → (x : Result Module Refusal) → answer_of x ≡ (declared_of b j).answer → verdict_as (verdict_from x) ≡ verdict_of j
+    go (refused n) k (Ok m) f = let z : ◌≡◌ {A = ℕ} 0 1 = cc in absurd (omega arith)
+    go (refused n) k (Err r) f = let q : number_of r ≡ n = cc in rw (ne_eqb (number_of r) 16 (λ g. omega arith)) (ap Verdict.Refused q)
     go (fit p) k x f = short x (rw (lt-leb (length (module_words p.state)) (length b) (omega (arith, five_words p.state))) at f)
 
 -- where the answer is known
-pub verdict_16 : (a : Answer) (n : ℕ) → a ≡ Refuses n → n ≡ 16 → program.Fit ≡ verdict_from a
-verdict_16 a n e q = rw (e, eq-eqb n 16 q)
-
-pub verdict_other : (a : Answer) (n : ℕ) → a ≡ Refuses n → (n ≡ 16 → ⊥) → program.Refused n ≡ verdict_from a
-verdict_other a n e q = rw (e, ne_eqb n 16 q)
+pub verdict_other : (r : Refusal) → (r ≡ BufferLength → ⊥) → Err r ≡ verdict_from (Err r)
+verdict_other r h = rw (ne_eqb (number_of r) 16 (λ e. h (sixteen r e)))
 
 -- ---- Wrapped
 
@@ -148,9 +144,9 @@ at_place s [] (suc n) i d h l = absurd (not-suc-le-zero l)
 at_place s (g ∷ gs) (suc n) zero d h l = refl
 at_place s (g ∷ gs) (suc n) (suc i) d h l = at_place s gs n i d (omega arith) (omega arith)
 
-pub standing : (s : List ℕ) (bytes : ℕ) (p : Places) (T S : List ℕ) (o : Outcome) → SheetWritten s bytes p T S o → Standing s p.types p.globals o
-standing s bytes p T S (Refused n) c = tt
-standing s bytes p T S (Fit k w) c =
+pub standing : (s : List ℕ) (bytes : ℕ) (p : Places) (T S : List ℕ) (o : Result (Counts × Writer) Refusal) → SheetWritten s bytes p T S o → Standing s p.types p.globals o
+standing s bytes p T S (Err r) c = tt
+standing s bytes p T S (Ok (k, w)) c =
     let g : k.globals ≤ length p.globals = omega (arith, c.ample.globals, c.few.globals) in
     record {
       in_types = omega (arith, c.ample.types, c.few.types);
@@ -158,35 +154,35 @@ standing s bytes p T S (Fit k w) c =
       fits = λ i h. subst (λ (x : Global). values_fit (global x) ≡ true) (at_place s p.globals k.globals i no_global h g) (c.globals i);
     }
 
-pub wrapped_as : (s : List ℕ) (bytes : ℕ) (p : Places) (T S : List ℕ) (o : Outcome) (index : ℕ) (r : Answered) → SheetWritten s bytes p T S o → WrappedAs s p.types p.globals o index r → WrappedPromise s index r
+pub wrapped_as : (s : List ℕ) (bytes : ℕ) (p : Places) (T S : List ℕ) (o : Result (Counts × Writer) Refusal) (index : ℕ) (r : Result Bool Refusal) → SheetWritten s bytes p T S o → WrappedAs s p.types p.globals o index r → WrappedPromise s index r
 unfolding wrapped
 wrapped_as s bytes p T S o index r c a = let q = same o c a in record { answered = rw q (wrapped_answers s index); same = q }
   where
-    same : (o : Outcome) → SheetWritten s bytes p T S o → WrappedAs s p.types p.globals o index r → wrapping_as r ≡ wrapped s index
-    same (Refused n) c a = a ∙ ap (λ (j : Judged Progress). wrapping_of index (bound_test j)) c ∙ sym (ap (wrapping_of index) (is_judged s))
-    same (Fit k w) c a =
+    same : (o : Result (Counts × Writer) Refusal) → SheetWritten s bytes p T S o → WrappedAs s p.types p.globals o index r → wrapping_as r ≡ wrapped s index
+    same (Err q) c a = a ∙ ap (λ (j : Judged Progress). wrapping_of index (bound_test j)) c ∙ sym (ap (wrapping_of index) (is_judged s))
+    same (Ok (k, w)) c a =
         a c.progress (ap (λ (n : Seen). n.types) c.seen) (ap (λ (n : Seen). n.globals) c.seen) c.held.last
         ∙ ap (λ (j : Judged Progress). wrapping_of index (bound_test j)) c.same ∙ sym (ap (wrapping_of index) (is_judged s))
 
 -- the ways out, where the outcome is known
-module _ (s ts gs : List ℕ) (o : Outcome) (index : ℕ) where
-  pub wraps_refused : (n : ℕ) → o ≡ Refused n → WrappedAs s ts gs o index (wraps.Refused n)
-  wraps_refused n e = rw e refl
+module _ (s ts gs : List ℕ) (o : Result (Counts × Writer) Refusal) (index : ℕ) where
+  pub wraps_refused : (r : Refusal) → o ≡ Err r → WrappedAs s ts gs o index (Err r)
+  wraps_refused r e = rw e refl
 
-  module _ (k : Counts) (w : Writer) (e : o ≡ Fit k w) where
+  module _ (k : Counts) (w : Writer) (e : o ≡ Ok (k, w)) where
     pub stood : Standing s ts gs o → PlacesStand s ts gs k.types k.globals
     stood h = subst (Standing s ts gs) e h
 
-    pub wraps_15 : 4194303 ≤ w.idgen.last → WrappedAs s ts gs o index (wraps.Refused 15)
+    pub wraps_15 : 4194303 ≤ w.idgen.last → WrappedAs s ts gs o index (Err Bound)
     wraps_15 h = rw e (λ p et eg el. rw (lt-leb (bound_of p.state) bound_most (omega arith)))
 
     module _ (low : w.idgen.last < 4194303) where
-      pub wraps_17 : k.globals ≤ index → WrappedAs s ts gs o index (wraps.Refused 17)
+      pub wraps_17 : k.globals ≤ index → WrappedAs s ts gs o index (Err NoGlobal)
       wraps_17 h = rw e (λ p et eg el.
           let l : length p.seen.globals ≤ index = rw eg (simp (length-map, length-take) (omega arith)) in
           rw (le-leb (bound_of p.state) bound_most (omega arith), le-ltb index (length p.seen.globals) l))
 
-      pub wraps_answer : index < k.globals → k.globals ≤ length gs → (y : Bool) → y ≡ needs_wrapper (types_from s ts k.types) (global_from s (get_or gs index 0)) → WrappedAs s ts gs o index (wraps.Wraps y)
+      pub wraps_answer : index < k.globals → k.globals ≤ length gs → (y : Bool) → y ≡ needs_wrapper (types_from s ts k.types) (global_from s (get_or gs index 0)) → WrappedAs s ts gs o index (Ok y)
       wraps_answer h g y q = rw e (λ p et eg el.
           let l : index < length p.seen.globals = rw eg (simp (length-map, length-take) (omega arith)) in
           let z : y ≡ needs_wrapper p.seen.types (get_or p.seen.globals index no_global) =

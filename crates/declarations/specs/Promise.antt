@@ -7,16 +7,15 @@ use Rattle.definition.specs.Answered.{Whole, Unchanged, Refusal}
 use Rattle.definition.specs.Operations.{Written, declare, check, Wraps, wrapped}
 use Rattle.definition.specs.Operations.{Verdict as MeantVerdict, Wrapping as MeantWrapping}
 use Rattle.definition.specs.WellDeclared.{Accepted}
-use Rattle.module_layout.specs.declared.Answer.{Answer}
+use Rattle.std.specs.Prelude.{Result, Ok, Err}
+use Rattle.refusals.specs.declared.Refusal.{Refusal as RefusedBy}
+use Rattle.refusals.specs.Numbers.{number_of}
+use Rattle.module_layout.specs.declared.Module.{Module}
 use Rattle.module_layout.specs.Finished.{answer_of, declared_as}
-use Rattle.declarations.specs.declared.Verdict.{Verdict}
-use Rattle.declarations.specs.declared.Verdict.TheVariants as verdict
-use Rattle.declarations.specs.declared.Wrapping.{Wrapping}
-use Rattle.declarations.specs.declared.Wrapping.TheVariants as wrapping
 
 -- ---- Declare: the sheet, the buffer before the call, the answer, the buffer after it
 
-pub record DeclarePromise (s before : List ℕ) (r : Answer) (after : List ℕ) : Type 0 where
+pub record DeclarePromise (s before : List ℕ) (r : Result Module RefusedBy) (after : List ℕ) : Type 0 where
   -- demand 1: the whole module and the rest of the buffer as it was, or one of 1 to 16 and no word changed
   pub answered : Whole s before (declared_as r after) ⊎ Unchanged before (declared_as r after)
   -- demand 2: answer, count, bound and every word are the definition's
@@ -29,11 +28,11 @@ pub record DeclarePromise (s before : List ℕ) (r : Answer) (after : List ℕ) 
 -- ---- Check
 
 -- document 01's case and number for each answer
-abbrev pub verdict_as : Verdict → MeantVerdict
-verdict_as verdict.Fit = MeantVerdict.Fit
-verdict_as (verdict.Refused n) = MeantVerdict.Refused n
+abbrev pub verdict_as : Result (Unit {0}) RefusedBy → MeantVerdict
+verdict_as (Ok u) = MeantVerdict.Fit
+verdict_as (Err r) = MeantVerdict.Refused (number_of r)
 
-pub record CheckPromise (s : List ℕ) (r : Verdict) : Type 0 where
+pub record CheckPromise (s : List ℕ) (r : Result (Unit {0}) RefusedBy) : Type 0 where
   -- Fit, or one of 1 to 15
   pub answered : (verdict_as r ≡ MeantVerdict.Fit) ⊎ ((n : ℕ) × Refusal n × (verdict_as r ≡ MeantVerdict.Refused n))
   -- the definition's
@@ -41,11 +40,11 @@ pub record CheckPromise (s : List ℕ) (r : Verdict) : Type 0 where
 
 -- ---- Wrapped
 
-abbrev pub wrapping_as : Wrapping → MeantWrapping
-wrapping_as (wrapping.Wraps y) = MeantWrapping.Wraps y
-wrapping_as (wrapping.Refused n) = MeantWrapping.Refused n
+abbrev pub wrapping_as : Result Bool RefusedBy → MeantWrapping
+wrapping_as (Ok y) = MeantWrapping.Wraps y
+wrapping_as (Err r) = MeantWrapping.Refused (number_of r)
 
-pub record WrappedPromise (s : List ℕ) (index : ℕ) (r : Wrapping) : Type 0 where
+pub record WrappedPromise (s : List ℕ) (index : ℕ) (r : Result Bool RefusedBy) : Type 0 where
   -- yes or no, or one of 1 to 15, or 17
   pub answered : ((y : Bool) × (wrapping_as r ≡ Wraps y)) ⊎ ((n : ℕ) × (Refusal n ⊎ (n ≡ 17)) × (wrapping_as r ≡ MeantWrapping.Refused n))
   -- the definition's

@@ -2,12 +2,14 @@
 // buffers of any length, indexes of any size.
 #![tactic(auto)]
 
-ghost use Rattle.std.specs.Prelude.{◌≡◌, ◌≤◌, length};
+ghost use Rattle.std.specs.Prelude.{◌≡◌, ◌<◌};
 ghost use Rattle.declarations.specs.Promise.{DeclarePromise, CheckPromise, WrappedPromise};
-ghost use Rattle.declarations.specs.Stages.{Lent, Roomed, Ended, Standing, WrappedAs, Answered, verdict_from};
+ghost use Rattle.declarations.specs.Stages.{Lent, Scratch, Roomed, Ended, Standing, WrappedAs, Answered, verdict_from};
 
-use module_layout::{Answer, BOUND_MOST};
-use sheet_writer::Outcome;
+use module_layout::{BOUND_MOST, Module};
+use records::Counts;
+use refusals::Refusal;
+use writer::Writer;
 
 // How large a sheet there is scratch for, by class, in bytes, and as many records as so many bytes can hold, or as a sheet may have; a
 // function record counts as two.
@@ -35,31 +37,37 @@ const LARGE: usize = 16384;
 
 const LARGE_RECORDS: usize = 704;
 
-// The scratch of a class, as `writer` lays it out: so many numbers of tables for each record, and one for each byte behind them for
-// the parts of composites; so many words of sections for each byte.
-const TABLE_NUMBERS: usize = 20;
+// The scratch of a class, as `writer` lays it out: twenty numbers of tables for each record, and one for each byte behind them for
+// the parts of composites; seven words of sections for each byte.
+const LEAST_TABLES: usize = 20 * LEAST_RECORDS + LEAST;
 
-const SECTION_WORDS: usize = 7;
+const LEAST_SECTIONS: usize = 7 * LEAST;
 
-// What Check answers.
-#[derive(Clone, Copy)]
-pub enum Verdict {
-    Fit,
-    Refused(u8),
-}
+const TINY_TABLES: usize = 20 * TINY_RECORDS + TINY;
 
-// What Wrapped answers.
-#[derive(Clone, Copy)]
-pub enum Wrapping {
-    Wraps(bool),
-    Refused(u8),
-}
+const TINY_SECTIONS: usize = 7 * TINY;
+
+const LITTLE_TABLES: usize = 20 * LITTLE_RECORDS + LITTLE;
+
+const LITTLE_SECTIONS: usize = 7 * LITTLE;
+
+const SMALL_TABLES: usize = 20 * SMALL_RECORDS + SMALL;
+
+const SMALL_SECTIONS: usize = 7 * SMALL;
+
+const MIDDLE_TABLES: usize = 20 * MIDDLE_RECORDS + MIDDLE;
+
+const MIDDLE_SECTIONS: usize = 7 * MIDDLE;
+
+const LARGE_TABLES: usize = 20 * LARGE_RECORDS + LARGE;
+
+const LARGE_SECTIONS: usize = 7 * LARGE;
 
 // What Declare and Wrapped answer, both of one reading of the sheet.
 #[derive(Clone, Copy)]
 struct Answers {
-    answer: Answer,
-    wrapping: Wrapping,
+    answer: Result<Module, Refusal>,
+    wrapping: Result<bool, Refusal>,
 }
 
 // An index that no global has.
@@ -68,42 +76,40 @@ const NO_GLOBAL: usize = 64;
 // ---- both, over scratch by the sheet's size
 
 // Tests 15 and 16, and the module, once the records are declared. A refusal writes nothing.
-fn finish(sections: &[u32], o: Outcome, words: &mut [u32]) -> Answer
+fn finish(
+    sections: &[u32],
+    o: Result<(Counts, Writer), Refusal>,
+    words: &mut [u32],
+) -> Result<Module, Refusal>
     requires { Roomed sections.now o }
     ensures { Ended sections.now o words.old result words.new }
 {
-    match o {
-        Outcome::Refused(n) => Answer::Refused(n),
-        Outcome::Fit(_, w) => module_layout::write_module(words, sections, w),
-    }
+    let (_, w) = o?;
+    module_layout::write_module(words, sections, w)
 }
 
 // Test 15, 17, and whether the global is wrapped, once the records are read: global i of the first n stands at its place.
-fn wrapping_of(sheet: &[u8], types: &[u32], globals: &[u32], o: Outcome, index: usize) -> Wrapping
+fn wrapping_of(
+    sheet: &[u8],
+    types: &[u32],
+    globals: &[u32],
+    o: Result<(Counts, Writer), Refusal>,
+    index: usize,
+) -> Result<bool, Refusal>
     requires { Standing sheet.now types.now globals.now o }
     ensures { WrappedAs sheet.now types.now globals.now o index result }
 {
-    match o {
-        Outcome::Refused(n) => Wrapping::Refused(n),
-        Outcome::Fit(k, w) => {
-            let g = w.idgen;
-            if BOUND_MOST <= g.last {
-                return Wrapping::Refused(15);
-            }
-            if k.globals <= index {
-                return Wrapping::Refused(17);
-            }
-            let v = entries::globals::global_at(sheet, globals, index);
-            let space = v.space;
-            Wrapping::Wraps(type_facts::global_needs_wrapper(
-                sheet,
-                types,
-                k.types,
-                v.ty as usize,
-                space,
-            ))
-        }
+    let (k, w) = o?;
+    let g = w.idgen;
+    if BOUND_MOST <= g.last {
+        return Err(Refusal::Bound);
     }
+    if k.globals <= index {
+        return Err(Refusal::NoGlobal);
+    }
+    let v = entries::globals::global_at(sheet, globals, index);
+    let space = v.space;
+    Ok(type_facts::global_needs_wrapper(sheet, types, k.types, v.ty as usize, space))
 }
 
 // The whole, over lent tables and sections. As many places are kept of each kind as a sheet may have, and behind those of the
@@ -142,171 +148,75 @@ fn answers_in(
     Answers { answer, wrapping }
 }
 
-fn answers_least(sheet: &[u8], words: &mut [u32], index: usize) -> Answers
-    requires { length sheet.now ≤ 32 }
+// The same over scratch of its own, of so many numbers and words. It is never inlined, so that the scratch of one class alone lies on
+// the stack.
+#[inline(never)]
+fn answers_over<const TABLES: usize, const SECTIONS: usize>(
+    sheet: &[u8],
+    nrecords: usize,
+    nbytes: usize,
+    words: &mut [u32],
+    index: usize,
+) -> Answers
+    requires enough { Scratch sheet.now nrecords nbytes TABLES SECTIONS }
+    requires small { (TABLES < 1000000) × (SECTIONS < 1000000) }
     ensures { Answered sheet.now words.old index result words.new }
 {
-    let mut tables = [0u64; TABLE_NUMBERS * LEAST_RECORDS + LEAST];
-    let mut sections = [0u32; SECTION_WORDS * LEAST];
+    let mut tables = [0u64; TABLES];
+    let mut sections = [0u32; SECTIONS];
     answers_in(
         sheet,
         &mut tables,
         &mut sections,
-        LEAST_RECORDS,
-        LEAST,
+        nrecords,
+        nbytes,
         words,
         index,
     )
 }
 
-fn answers_tiny(sheet: &[u8], words: &mut [u32], index: usize) -> Answers
-    requires { length sheet.now ≤ 128 }
+// By the sheet's size: what is cleared at each call goes by it.
+fn answers_by_size(sheet: &[u8], words: &mut [u32], index: usize) -> Answers
     ensures { Answered sheet.now words.old index result words.new }
 {
-    let mut tables = [0u64; TABLE_NUMBERS * TINY_RECORDS + TINY];
-    let mut sections = [0u32; SECTION_WORDS * TINY];
-    answers_in(
-        sheet,
-        &mut tables,
-        &mut sections,
-        TINY_RECORDS,
-        TINY,
-        words,
-        index,
-    )
-}
-
-fn answers_little(sheet: &[u8], words: &mut [u32], index: usize) -> Answers
-    requires { length sheet.now ≤ 512 }
-    ensures { Answered sheet.now words.old index result words.new }
-{
-    let mut tables = [0u64; TABLE_NUMBERS * LITTLE_RECORDS + LITTLE];
-    let mut sections = [0u32; SECTION_WORDS * LITTLE];
-    answers_in(
-        sheet,
-        &mut tables,
-        &mut sections,
-        LITTLE_RECORDS,
-        LITTLE,
-        words,
-        index,
-    )
-}
-
-fn answers_small(sheet: &[u8], words: &mut [u32], index: usize) -> Answers
-    requires { length sheet.now ≤ 1280 }
-    ensures { Answered sheet.now words.old index result words.new }
-{
-    let mut tables = [0u64; TABLE_NUMBERS * SMALL_RECORDS + SMALL];
-    let mut sections = [0u32; SECTION_WORDS * SMALL];
-    answers_in(
-        sheet,
-        &mut tables,
-        &mut sections,
-        SMALL_RECORDS,
-        SMALL,
-        words,
-        index,
-    )
-}
-
-fn answers_middle(sheet: &[u8], words: &mut [u32], index: usize) -> Answers
-    requires { length sheet.now ≤ 4096 }
-    ensures { Answered sheet.now words.old index result words.new }
-{
-    let mut tables = [0u64; TABLE_NUMBERS * MIDDLE_RECORDS + MIDDLE];
-    let mut sections = [0u32; SECTION_WORDS * MIDDLE];
-    answers_in(
-        sheet,
-        &mut tables,
-        &mut sections,
-        MIDDLE_RECORDS,
-        MIDDLE,
-        words,
-        index,
-    )
-}
-
-fn answers_large(sheet: &[u8], words: &mut [u32], index: usize) -> Answers
-    ensures { Answered sheet.now words.old index result words.new }
-{
-    let mut tables = [0u64; TABLE_NUMBERS * LARGE_RECORDS + LARGE];
-    let mut sections = [0u32; SECTION_WORDS * LARGE];
-    answers_in(
-        sheet,
-        &mut tables,
-        &mut sections,
-        LARGE_RECORDS,
-        LARGE,
-        words,
-        index,
-    )
-}
-
-// By the sheet's class. It calls itself, so that the compiler lays the scratch of no class out in its frame.
-fn answers_class(class: u8, sheet: &[u8], words: &mut [u32], index: usize) -> Answers
-    ensures { Answered sheet.now words.old index result words.new }
-{
-    if class == 0 {
-        if sheet.len() <= LEAST {
-            return answers_least(sheet, words, index);
-        }
-        return answers_class(1, sheet, words, index);
+    let n = sheet.len();
+    if n <= LEAST {
+        answers_over::<LEAST_TABLES, LEAST_SECTIONS>(sheet, LEAST_RECORDS, LEAST, words, index)
+    } else if n <= TINY {
+        answers_over::<TINY_TABLES, TINY_SECTIONS>(sheet, TINY_RECORDS, TINY, words, index)
+    } else if n <= LITTLE {
+        answers_over::<LITTLE_TABLES, LITTLE_SECTIONS>(sheet, LITTLE_RECORDS, LITTLE, words, index)
+    } else if n <= SMALL {
+        answers_over::<SMALL_TABLES, SMALL_SECTIONS>(sheet, SMALL_RECORDS, SMALL, words, index)
+    } else if n <= MIDDLE {
+        answers_over::<MIDDLE_TABLES, MIDDLE_SECTIONS>(sheet, MIDDLE_RECORDS, MIDDLE, words, index)
+    } else {
+        answers_over::<LARGE_TABLES, LARGE_SECTIONS>(sheet, LARGE_RECORDS, LARGE, words, index)
     }
-    if class == 1 {
-        if sheet.len() <= TINY {
-            return answers_tiny(sheet, words, index);
-        }
-        return answers_class(2, sheet, words, index);
-    }
-    if class == 2 {
-        if sheet.len() <= LITTLE {
-            return answers_little(sheet, words, index);
-        }
-        return answers_class(3, sheet, words, index);
-    }
-    if class == 3 {
-        if sheet.len() <= SMALL {
-            return answers_small(sheet, words, index);
-        }
-        return answers_class(4, sheet, words, index);
-    }
-    if class == 4 {
-        if sheet.len() <= MIDDLE {
-            return answers_middle(sheet, words, index);
-        }
-        return answers_class(5, sheet, words, index);
-    }
-    answers_large(sheet, words, index)
 }
 
 // ---- the operations
 
 // Declares a sheet into a word buffer.
-pub fn declare(sheet: &[u8], words: &mut [u32]) -> Answer
+pub fn declare(sheet: &[u8], words: &mut [u32]) -> Result<Module, Refusal>
     ensures { DeclarePromise sheet.now words.old result words.new }
 {
-    let a = answers_class(0, sheet, words, NO_GLOBAL);
+    let a = answers_by_size(sheet, words, NO_GLOBAL);
     a.answer
 }
 
 // What a Declare into too short a buffer says of the sheet: 16 comes after all of Check.
-fn verdict_of(a: Answer) -> Verdict
+fn verdict_of(a: Result<Module, Refusal>) -> Result<(), Refusal>
     ensures { result ≡ verdict_from a }
 {
     match a {
-        Answer::Written(_, _) => Verdict::Fit,
-        Answer::Refused(n) => {
-            if n == 16 {
-                return Verdict::Fit;
-            }
-            Verdict::Refused(n)
-        }
+        Ok(_) | Err(Refusal::BufferLength) => Ok(()),
+        Err(refusal) => Err(refusal),
     }
 }
 
 // Whether a sheet is fit. A module has five words at least, so that for a fit sheet a buffer of one word is too short.
-pub fn check(sheet: &[u8]) -> Verdict
+pub fn check(sheet: &[u8]) -> Result<(), Refusal>
     ensures { CheckPromise sheet.now result }
 {
     let mut one = [0u32; 1];
@@ -315,10 +225,10 @@ pub fn check(sheet: &[u8]) -> Verdict
 }
 
 // Whether a global of the sheet is wrapped in a struct.
-pub fn wrapped(sheet: &[u8], index: usize) -> Wrapping
+pub fn wrapped(sheet: &[u8], index: usize) -> Result<bool, Refusal>
     ensures { WrappedPromise sheet.now index result }
 {
     let mut one = [0u32; 1];
-    let a = answers_class(0, sheet, &mut one, index);
+    let a = answers_by_size(sheet, &mut one, index);
     a.wrapping
 }

@@ -6,8 +6,9 @@ ghost use Rattle.module_layout.specs.Finished.{answer_of, declared_as};
 ghost use Rattle.printing.specs.Text.{Printed};
 ghost use Rattle.declare_main.specs.Answers.{printed, answer_to, CountWithin};
 
-use module_layout::Answer;
+use module_layout::Module;
 use printing::streams;
+use refusals::Refusal;
 
 // How many words Declare is lent.
 const WORDS: usize = 16384;
@@ -15,17 +16,14 @@ const WORDS: usize = 16384;
 // Nine bytes for each word, so that all is printed by one call.
 const TEXT: usize = 147456;
 
-// One byte more than a sheet may have: a longer one is refused by these bytes alone (`answer_held`).
-const SHEET: usize = 16385;
-
 // Puts the words that were written, or the refusal, at the front of the text.
-fn put_answer(a: Answer, words: &[u32], text: &mut [u8]) -> usize
+fn put_answer(a: Result<Module, Refusal>, words: &[u32], text: &mut [u8]) -> usize
     requires { CountWithin (answer_of a) words.now × (9 * length words.now ≤ length text.old) × (12 ≤ length text.old) }
     ensures { Printed (printed (declared_as a words.now)) text.old text.new result }
 {
     match a {
-        Answer::Written(n, _) => printing::put_lines(text, words, n),
-        Answer::Refused(n) => printing::put_refusal(text, n),
+        Ok(module) => printing::put_lines(text, words, module.words),
+        Err(refusal) => printing::put_refusal(text, refusal.number()),
     }
 }
 
@@ -46,10 +44,8 @@ fn print_answer_to(rt: &(impl Print + Eprint), sheet: &[u8]) {
 }
 
 fn main(rt: HostRuntime) {
-    let mut sheet = [0u8; SHEET];
-    let input = streams::read_input(&rt, &mut sheet);
-    let n = input.held;
-    if !input.failed {
-        print_answer_to(&rt, &sheet[..n]);
+    let mut buffer = [0u8; streams::SHEET];
+    if let Some(sheet) = streams::read(&rt, &mut buffer) {
+        print_answer_to(&rt, sheet);
     }
 }

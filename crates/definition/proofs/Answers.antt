@@ -81,8 +81,8 @@ module _ {S : Type 0} where
   judge_known (suc h) x l k = (omega arith, l)
 
   -- 4 of what is left of the sheet
-  pick_known : (end none : Bool) (s : S) (x : Judged S) → Known x → Known (pick end (fit s) (pick none (refused 4) x))
-  pick_known true none s x k = tt
+  pick_known : (end None : Bool) (s : S) (x : Judged S) → Known x → Known (pick end (fit s) (pick None (refused 4) x))
+  pick_known true None s x k = tt
   pick_known false true s x k = (omega arith, omega arith)
   pick_known false false s x k = k
 

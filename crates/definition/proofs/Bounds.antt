@@ -3,7 +3,7 @@
 use Prim.Native.Nat.{ℕ, suc, zero, ◌+◌, ◌*◌, ◌/◌, ◌%◌, ◌≤◌}
 use mathlib.Core.Path.{◌≡◌, refl, ◌∙◌}
 use mathlib.Core.List.{List, [], ◌∷◌}
-use mathlib.Core.Option.{some, none}
+use Rattle.std.specs.Prelude.{Some, None}
 use mathlib.Core.Bool.{Bool, true, false}
 use native.Mathlib.Omega.{arith}
 use lib.Dec.{T, eqb, leb, leb→le, lit≤}
@@ -173,7 +173,7 @@ name_good b i u t = go (eqb (u8_at b i) 255) t
     bs : List ℕ
     bs = take (u8_at b i) (drop (i + 1) b)
 
-    go : (c : Bool) → T (name_fits (pick c none (some (take (u8_at b i) (drop (i + 1) b))))) → GoodName (pick c none (some (take (u8_at b i) (drop (i + 1) b))))
+    go : (c : Bool) → T (name_fits (pick c None (Some (take (u8_at b i) (drop (i + 1) b))))) → GoodName (pick c None (Some (take (u8_at b i) (drop (i + 1) b))))
     go true t = tt
     go false t =
         let xs = take (u8_at b i) (drop (i + 1) b) in

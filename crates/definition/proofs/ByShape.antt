@@ -3,7 +3,7 @@
 use Prim.Native.Nat.{ℕ, suc, ◌*◌, ◌<◌, ◌≤◌, ◌/◌, ◌%◌}
 use mathlib.Core.Path.{◌≡◌, refl, sym, ap, ◌∙◌, subst}
 use mathlib.Core.List.{List, [], ◌∷◌, ◌++◌, append-nil, Memᴰ}
-use mathlib.Core.Option.{Option, some, none}
+use Rattle.std.specs.Prelude.{Option, Some, None}
 use mathlib.Core.Bool.{Bool, true, false, ◌&&◌, beq}
 use native.Mathlib.Omega.{arith}
 use lib.Dec.{eqb, ltb, T, ltb→lt, lit<, lit≤}
@@ -22,12 +22,12 @@ use Rattle.definition.proofs.Sizes.{W, Sized, SmallShape, SmallKey}
 
 -- the ids that a shape's instruction uses
 abbrev pub inner_ids : Option Key → ℕ → List ℕ
-inner_ids none x = []
-inner_ids (some k) x = x ∷ []
+inner_ids None x = []
+inner_ids (Some k) x = x ∷ []
 
 abbrev pub length_ids : Option ℕ → ℕ → List ℕ
-length_ids none y = []
-length_ids (some n) y = y ∷ []
+length_ids None y = []
+length_ids (Some n) y = y ∷ []
 
 -- an instruction that the reader takes, with one at most of numbers up to the end
 pub record Formed (d : Instruction) : Type 0 where
@@ -80,27 +80,27 @@ floats_agree w = rw (scaled w 2, scaled w 8)
 
 -- what a shape names lies less deep
 abbrev pub Deeper : Option Key → ℕ → Type 0
-Deeper none n = Unit
-Deeper (some k) n = rank k < n
+Deeper None n = Unit
+Deeper (Some k) n = rank k < n
 
 abbrev pub Inside : Option ℕ → ℕ → Type 0
-Inside none r = Unit
-Inside (some n) r = 0 < r
+Inside None r = Unit
+Inside (Some n) r = 0 < r
 
 -- .. and is small where the shape is
 abbrev pub SmallIn : Option Key → Type 0
-SmallIn none = Unit
-SmallIn (some k) = SmallKey k
+SmallIn None = Unit
+SmallIn (Some k) = SmallKey k
 
 abbrev pub SmallLength : Option ℕ → Type 0
-SmallLength none = Unit
-SmallLength (some n) = n ≤ W
+SmallLength None = Unit
+SmallLength (Some n) = n ≤ W
 
 -- a plain type names plain types only
 abbrev pub PlainIn : Option Key → Type 0
-PlainIn none = Unit
-PlainIn (some (shape l)) = T (plain_type (opcode_of l))
-PlainIn (some (entry h)) = ⊥
+PlainIn None = Unit
+PlainIn (Some (shape l)) = T (plain_type (opcode_of l))
+PlainIn (Some (entry h)) = ⊥
 
 pub plain_scalar : (k : Kind) → T (plain_type (opcode_of (scalar k)))
 plain_scalar (sint w) = tt
@@ -112,8 +112,8 @@ plain_scalar bool = tt
 
 -- the reader finds a scalar or a vector under an id
 abbrev pub ReadAs : List Instruction → Shape → ℕ → Type 0
-ReadAs is (scalar k) x = read_scalar is x ≡ some k
-ReadAs is (vector n k) x = read_vector is x ≡ some (record { count = n; kind = k })
+ReadAs is (scalar k) x = read_scalar is x ≡ Some k
+ReadAs is (vector n k) x = read_vector is x ≡ Some (record { count = n; kind = k })
 ReadAs is (matrix c r w) x = Unit
 ReadAs is (pointer b c) x = Unit
 ReadAs is (value_pointer n k c) x = Unit
@@ -125,17 +125,17 @@ ReadAs is (binding_array b n) x = Unit
 ReadAs is (binding_pointer b n s a) x = Unit
 
 abbrev pub ReadIn : List Instruction → Option Key → ℕ → Type 0
-ReadIn is none x = Unit
-ReadIn is (some (entry h)) x = Unit
-ReadIn is (some (shape l)) x = ReadAs is l x
+ReadIn is None x = Unit
+ReadIn is (Some (entry h)) x = Unit
+ReadIn is (Some (shape l)) x = ReadAs is l x
 
-bytes_of_lem : (w : ℕ) → bytes_of (8 * w) ≡ some w
+bytes_of_lem : (w : ℕ) → bytes_of (8 * w) ≡ Some w
 bytes_of_lem w =
     let r : (8 * w) % 8 ≡ 0 = omega arith in
     let q : (8 * w) / 8 ≡ w = omega arith in
     rw (r, q) refl
 
-pub scalar_by_lem : (k : Kind) (i x y : ℕ) → scalar_by (type_of (scalar k) i x y) ≡ some k
+pub scalar_by_lem : (k : Kind) (i x y : ℕ) → scalar_by (type_of (scalar k) i x y) ≡ Some k
 scalar_by_lem (sint w) i x y = rw (bytes_of_lem w) refl
 scalar_by_lem (uint w) i x y = rw (bytes_of_lem w) refl
 scalar_by_lem (float w) i x y = rw (bytes_of_lem w) refl
@@ -153,8 +153,8 @@ pub record Facts (l : Shape) : Type 0 where
   pub small-length : SmallShape l → SmallLength (sized l)
   pub shallow : rank_of l ≤ 2
   pub plain_inner : T (plain_type (opcode_of l)) → PlainIn (inner l)
-  pub plain_sized : T (plain_type (opcode_of l)) → sized l ≡ none
-  pub told : (is : List Instruction) (id x y : ℕ) → T (plain_type (opcode_of l)) → ReadIn is (inner l) x → type_by is (type_of l id x y) ≡ some l
+  pub plain_sized : T (plain_type (opcode_of l)) → sized l ≡ None
+  pub told : (is : List Instruction) (id x y : ℕ) → T (plain_type (opcode_of l)) → ReadIn is (inner l) x → type_by is (type_of l id x y) ≡ Some l
 
 pub facts : (l : Shape) → Facts l
 unfolding needs
@@ -182,13 +182,13 @@ plain_used : (l : Shape) (x y : ℕ) → T (plain_type (opcode_of l)) → ids_am
 plain_used l x y t = (facts l).used x y ∙ (ap (λ (o : Option ℕ). inner_ids (inner l) x ++ length_ids o y) ((facts l).plain_sized t) ∙ append-nil (inner_ids (inner l) x))
 
 abbrev pub FitsLength : Option ℕ → ℕ → Type 0
-FitsLength none y = y ≡ 0
-FitsLength (some n) y = Unit
+FitsLength None y = y ≡ 0
+FitsLength (Some n) y = Unit
 
 -- the id that stands for a shape's inner type
 abbrev pub FitsIn : List (Key × ℕ) → Option Key → ℕ → Type 0
-FitsIn types none x = x ≡ 0
-FitsIn types (some k) x = Memᴰ (k, x) types
+FitsIn types None x = x ≡ 0
+FitsIn types (Some k) x = Memᴰ (k, x) types
 
 -- declarations in which the reader finds a scalar or a vector under an id
 abbrev spelled : Shape → ℕ → List Instruction
@@ -205,9 +205,9 @@ spelled (binding_array b n) x = []
 spelled (binding_pointer b n s a) x = []
 
 abbrev spelling : Option Key → ℕ → List Instruction
-spelling none x = []
-spelling (some (entry h)) x = []
-spelling (some (shape l)) x = spelled l x
+spelling None x = []
+spelling (Some (entry h)) x = []
+spelling (Some (shape l)) x = spelled l x
 
 spelled_out : (l : Shape) (x : ℕ) → ReadAs (spelled l x) l x
 unfolding read_scalar read_vector declaration_of
@@ -224,29 +224,29 @@ spelled_out (binding_array b n) x = tt
 spelled_out (binding_pointer b n s a) x = tt
 
 spelt : (o : Option Key) (x : ℕ) → ReadIn (spelling o x) o x
-spelt none x = tt
-spelt (some (entry h)) x = tt
-spelt (some (shape l)) x = spelled_out l x
+spelt None x = tt
+spelt (Some (entry h)) x = tt
+spelt (Some (shape l)) x = spelled_out l x
 
 one_spelling : (o p : Option Key) (x y : ℕ) → o ≡ p → inner_ids o x ≡ inner_ids p y → spelling o x ≡ spelling p y
 one_spelling o p x y e = subst (λ (q : Option Key). inner_ids o x ≡ inner_ids q y → spelling o x ≡ spelling q y) e (go o)
   where
     go : (o : Option Key) → inner_ids o x ≡ inner_ids o y → spelling o x ≡ spelling o y
-    go none f = refl
-    go (some k) f = let q : x ≡ y = cc in ap (spelling (some k)) q
+    go None f = refl
+    go (Some k) f = let q : x ≡ y = cc in ap (spelling (Some k)) q
 
 module _ (types : List (Key × ℕ)) (injective : (l m : Shape) (i : ℕ) → Memᴰ (shape l, i) types → Memᴰ (shape m, i) types → l ≡ m) where
   same_inner : (o p : Option Key) (x y : ℕ) → inner_ids o x ≡ inner_ids p y → FitsIn types o x → FitsIn types p y → PlainIn o → PlainIn p → o ≡ p
-  same_inner none none x y e f g a b = refl
-  same_inner none (some (entry h)) x y e f g a b = absurd b
-  same_inner none (some (shape m)) x y e f g a b = cc
-  same_inner (some (entry h)) none x y e f g a b = absurd a
-  same_inner (some (entry h)) (some k) x y e f g a b = absurd a
-  same_inner (some (shape l)) none x y e f g a b = cc
-  same_inner (some (shape l)) (some (entry h)) x y e f g a b = absurd b
-  same_inner (some (shape l)) (some (shape m)) x y e f g a b =
+  same_inner None None x y e f g a b = refl
+  same_inner None (Some (entry h)) x y e f g a b = absurd b
+  same_inner None (Some (shape m)) x y e f g a b = cc
+  same_inner (Some (entry h)) None x y e f g a b = absurd a
+  same_inner (Some (entry h)) (Some k) x y e f g a b = absurd a
+  same_inner (Some (shape l)) None x y e f g a b = cc
+  same_inner (Some (shape l)) (Some (entry h)) x y e f g a b = absurd b
+  same_inner (Some (shape l)) (Some (shape m)) x y e f g a b =
       let q : x ≡ y = cc in
-      ap (λ (n : Shape). some (shape n)) (injective l m y (rw q at f) g)
+      ap (λ (n : Shape). Some (shape n)) (injective l m y (rw q at f) g)
 
   -- shapes whose type declarations are equal are one: a reader who finds what both name finds one shape
   pub equal_types_same : (l m : Shape) (i j x y x' y' : ℕ) → FitsIn types (inner l) x → FitsIn types (inner m) x' → EqualTypes (type_of l i x y) (type_of m j x' y') → l ≡ m
@@ -255,8 +255,8 @@ module _ (types : List (Key × ℕ)) (injective : (l m : Shape) (i : ℕ) → Me
       let ids : inner_ids (inner l) x ≡ inner_ids (inner m) x' = sym (plain_used l x y t.plain) ∙ (ap (λ (o : ℕ). ids_among (layout_of o).operands (operands_of l x y)) t.opcode ∙ (ap (λ (xs : List ℕ). ids_among (layout_of (opcode_of m)).operands xs) t.operands ∙ plain_used m x' y' tm)) in
       let same : inner l ≡ inner m = same_inner (inner l) (inner m) x x' ids f g ((facts l).plain_inner t.plain) ((facts m).plain_inner tm) in
       let is = spelling (inner l) x in
-      let a : type_by is (type_of l i x y) ≡ some l = (facts l).told is i x y t.plain (spelt (inner l) x) in
-      let b : type_by is (type_of m j x' y') ≡ some m = (facts m).told is j x' y' tm (subst (λ (ks : List Instruction). ReadIn ks (inner m) x') (one_spelling (inner m) (inner l) x' x (sym same) (sym ids)) (spelt (inner m) x')) in
+      let a : type_by is (type_of l i x y) ≡ Some l = (facts l).told is i x y t.plain (spelt (inner l) x) in
+      let b : type_by is (type_of m j x' y') ≡ Some m = (facts m).told is j x' y' tm (subst (λ (ks : List Instruction). ReadIn ks (inner m) x') (one_spelling (inner m) (inner l) x' x (sym same) (sym ids)) (spelt (inner m) x')) in
       let c : type_by is (type_of l i x y) ≡ type_by is (type_of m j x' y') = ap (λ (o : ℕ). type_by is (type_op o i (operands_of l x y))) t.opcode ∙ ap (λ (xs : List ℕ). type_by is (type_op (opcode_of m) i xs)) t.operands in
-      let d : some l ≡ some m = sym a ∙ (c ∙ b) in
+      let d : Some l ≡ Some m = sym a ∙ (c ∙ b) in
       cc

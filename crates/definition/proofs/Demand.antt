@@ -6,12 +6,13 @@ use mathlib.Core.Path.{◌≡◌, refl, sym, ap, ◌∙◌, subst}
 use mathlib.Core.Logic.{◌⊎◌, inl, inr, ◌↔◌}
 use mathlib.Core.List.Memᴰ
 use mathlib.Core.List.{List, [], ◌∷◌, ◌++◌, append-nil, append_assoc, Memᴰ}
-use mathlib.Core.Option.{Option, some, none}
+use Rattle.std.specs.Prelude.{Option, Some, None}
 use mathlib.Core.Bool.{Bool, true, false}
 use native.Mathlib.Omega.{arith}
 use borrow.Author.Tests.{eq-eqb, ne_eqb}
 use lib.Dec.{T, lit<, eqb, leb, eqb→eq}
-use lib.ListN.{length, get_elem?, take, drop}
+use Rattle.std.specs.List.{slice_get}
+use lib.ListN.{length, take, drop}
 use lib.Seq.{take_at, drop_at}
 use Rattle.definition.specs.Choice.{pick, or_else}
 use Rattle.definition.specs.Numbers.{OpCapability, OpName, OpMemberName, OpDecorate, OpMemberDecorate, OpTypeVoid, OpTypeBool, OpTypeInt, OpTypeFloat, OpTypeVector, OpTypeMatrix, OpTypeImage, OpTypeSampler, OpTypeFunction, OpTypeAccelerationStructureKHR, OpTypeRayQueryKHR}
@@ -39,7 +40,7 @@ use Rattle.definition.proofs.Capabilities.{small_listed}
 
 -- an instruction that declares nothing and needs nothing
 record Quiet (d : Instruction) : Type 0 where
-  silent : d.result ≡ none
+  silent : d.result ≡ None
   other : T (plain_type d.opcode) → ⊥
   free : (c : ℕ) → occurrences c (needs d) ≡ 0
 
@@ -181,27 +182,27 @@ module _ (last : ℕ) (d : Instruction) (h : Declaration last d) where
 -- ---- the reader of types: an id that is declared once is found
 
 once_is : (i : ℕ) (o : Option ℕ) (b : Bool) → result_is i o ≡ b → once o i ≡ pick b 1 0
-once_is i none b e = ap {B = ℕ} (λ (c : Bool). pick c 1 0) e
-once_is i (some r) b e = ap {B = ℕ} (λ (c : Bool). pick c 1 0) e
+once_is i None b e = ap {B = ℕ} (λ (c : Bool). pick c 1 0) e
+once_is i (Some r) b e = ap {B = ℕ} (λ (c : Bool). pick c 1 0) e
 
-declaration_found : (i : ℕ) {d : Instruction} {xs : List Instruction} → d.result ≡ some i → Memᴰ d xs → times i xs ≡ 1 → declaration_of xs i ≡ some d
+declaration_found : (i : ℕ) {d : Instruction} {xs : List Instruction} → d.result ≡ Some i → Memᴰ d xs → times i xs ≡ 1 → declaration_of xs i ≡ Some d
 unfolding declaration_of times
 declaration_found i {d} r (Memᴰ.head {x = y} {xs = ys} e) t =
     let f : result_is i y.result ≡ true = ap (λ (z : Instruction). result_is i z.result) (sym e) ∙ (ap (result_is i) r ∙ eq-eqb i i refl) in
-    ap (λ (b : Bool). pick b (some y) (declaration_of ys i)) f ∙ ap some (sym e)
+    ap (λ (b : Bool). pick b (Some y) (declaration_of ys i)) f ∙ ap Some (sym e)
 declaration_found i {d} r (Memᴰ.tail {x = y} {xs = ys} m) t = go (result_is i y.result) refl (declaration_found i r m)
   where
-    go : (b : Bool) → result_is i y.result ≡ b → (times i ys ≡ 1 → declaration_of ys i ≡ some d) → pick b (some y) (declaration_of ys i) ≡ some d
+    go : (b : Bool) → result_is i y.result ≡ b → (times i ys ≡ 1 → declaration_of ys i ≡ Some d) → pick b (Some y) (declaration_of ys i) ≡ Some d
     go true e f = absurd (omega (arith, t, once_is i y.result true e, times_in i m, ap (λ (o : Option ℕ). once o i) r, same_itself i))
     go false e f = f (omega (arith, t, once_is i y.result false e))
 
 -- what is found stands there
-declaration_in : (i : ℕ) (xs : List Instruction) (d : Instruction) → declaration_of xs i ≡ some d → Memᴰ d xs
+declaration_in : (i : ℕ) (xs : List Instruction) (d : Instruction) → declaration_of xs i ≡ Some d → Memᴰ d xs
 unfolding declaration_of
 declaration_in i [] d e = let z : ◌≡◌ {A = ℕ} 0 1 = cc in absurd (omega arith)
 declaration_in i (x ∷ xs) d e = go (result_is i x.result) e (declaration_in i xs d)
   where
-    go : (b : Bool) → pick b (some x) (declaration_of xs i) ≡ some d → (declaration_of xs i ≡ some d → Memᴰ d xs) → Memᴰ d (x ∷ xs)
+    go : (b : Bool) → pick b (Some x) (declaration_of xs i) ≡ Some d → (declaration_of xs i ≡ Some d → Memᴰ d xs) → Memᴰ d (x ∷ xs)
     go true e f = let p : d ≡ x = cc in Memᴰ.head p
     go false e f = Memᴰ.tail (f e)
 
@@ -324,16 +325,16 @@ module _ (start : ℕ) (s : State) (h : Sound start [] s) where
       go (inl q) = absurd (Memᴰ.not-nil q)
       go (inr q) = q
 
-  found_type : (l : Shape) (i : ℕ) (q : Settled s.types s.declarations l i) → declaration_of (instructions s) i ≡ some (type_of l i q.x q.y)
+  found_type : (l : Shape) (i : ℕ) (q : Settled s.types s.declarations l i) → declaration_of (instructions s) i ≡ Some (type_of l i q.x q.y)
   found_type l i q =
       let r = no_other i (settled_declared q) in
       declaration_found i refl (all_declarations q.declared) (all_times i ∙ each_once i r.0 r.1)
 
-  scalar_read : (k : Kind) (i : ℕ) → Memᴰ (shape (scalar k), i) s.types → read_scalar (instructions s) i ≡ some k
+  scalar_read : (k : Kind) (i : ℕ) → Memᴰ (shape (scalar k), i) s.types → read_scalar (instructions s) i ≡ Some k
   unfolding read_scalar
   scalar_read k i m = let q = shape_declared_lem (scalar k) i m in rw (found_type (scalar k) i q) (scalar_by_lem k i q.x q.y)
 
-  vector_read : (n : ℕ) (k : Kind) (i : ℕ) → Memᴰ (shape (vector n k), i) s.types → read_vector (instructions s) i ≡ some (record { count = n; kind = k })
+  vector_read : (n : ℕ) (k : Kind) (i : ℕ) → Memᴰ (shape (vector n k), i) s.types → read_vector (instructions s) i ≡ Some (record { count = n; kind = k })
   unfolding read_vector
   vector_read n k i m = let q = shape_declared_lem (vector n k) i m in rw (found_type (vector n k) i q, scalar_read k q.x q.fits) refl
 
@@ -351,26 +352,26 @@ module _ (start : ℕ) (s : State) (h : Sound start [] s) where
   shape_read (binding_pointer b n t a) x m = tt
 
   inner_read : (o : Option Key) (x : ℕ) → FitsIn s.types o x → ReadIn (instructions s) o x
-  inner_read none x f = tt
-  inner_read (some (entry k)) x f = tt
-  inner_read (some (shape l)) x f = shape_read l x f
+  inner_read None x f = tt
+  inner_read (Some (entry k)) x f = tt
+  inner_read (Some (shape l)) x f = shape_read l x f
 
-  type_read_lem : (l : Shape) (i : ℕ) → T (plain_type (opcode_of l)) → Memᴰ (shape l, i) s.types → read_type (instructions s) i ≡ some l
+  type_read_lem : (l : Shape) (i : ℕ) → T (plain_type (opcode_of l)) → Memᴰ (shape l, i) s.types → read_type (instructions s) i ≡ Some l
   unfolding read_type
   type_read_lem l i p m = let q = shape_declared_lem l i m in rw (found_type l i q) ((facts l).told (instructions s) i q.x q.y p (inner_read (inner l) q.x q.fits))
 
-  found_id : (k i : ℕ) → Memᴰ (entry k, i) s.types → id_of s (entry k) ≡ some i
+  found_id : (k i : ℕ) → Memᴰ (entry k, i) s.types → id_of s (entry k) ≡ Some i
   found_id k i m = go (lookup same_key (entry k) s.types) refl
     where
-      go : (o : Option ℕ) → lookup same_key (entry k) s.types ≡ o → o ≡ some i
-      go none e = absurd (lookup_out same_key (entry k) s.types e i m)
-      go (some j) e = ap some (h.unique (entry k) j i (lookup_in same_key (entry k) s.types j e) m)
+      go : (o : Option ℕ) → lookup same_key (entry k) s.types ≡ o → o ≡ Some i
+      go None e = absurd (lookup_out same_key (entry k) s.types e i m)
+      go (Some j) e = ap Some (h.unique (entry k) j i (lookup_in same_key (entry k) s.types j e) m)
 
   -- equal ids exactly where equal shapes
   one_id : (l m : Shape) (i j : ℕ) → Memᴰ (shape l, i) s.types → Memᴰ (shape m, j) s.types → (i ≡ j) ↔ (l ≡ m)
   one_id l m i j a b = (λ e. h.injective l m j (rw e at a) b, λ e. h.unique (shape m) i j (rw e at a) b)
 
-  pub entries_declared : (ts : List TypeEntry) → ((k : ℕ) (t : TypeEntry) → get_elem? ts k ≡ some t → Told k (shape_of t.inner) s.types) → EntriesDeclared ts s (instructions s)
+  pub entries_declared : (ts : List TypeEntry) → ((k : ℕ) (t : TypeEntry) → slice_get ts k ≡ Some t → Told k (shape_of t.inner) s.types) → EntriesDeclared ts s (instructions s)
   entries_declared ts told = record {
     shared = shared;
     declared = λ k l a. let q = has k l a in (q.0, found_id k q.0 q.1, type_read_lem l q.0 (plain_shape a.0.inner l a.2 a.3) q.2);
@@ -379,7 +380,7 @@ module _ (start : ℕ) (s : State) (h : Sound start [] s) where
       has : (k : ℕ) (l : Shape) → HasShape ts k l → HasShapeId k l s.types
       has k l a = subst (λ (o : Option Shape). Told k o s.types) a.3 (told k a.0 a.1)
 
-      shared : (k g : ℕ) (l m : Shape) (i j : ℕ) → HasShape ts k l → HasShape ts g m → id_of s (entry k) ≡ some i → id_of s (entry g) ≡ some j → (i ≡ j) ↔ (l ≡ m)
+      shared : (k g : ℕ) (l m : Shape) (i j : ℕ) → HasShape ts k l → HasShape ts g m → id_of s (entry k) ≡ Some i → id_of s (entry g) ≡ Some j → (i ≡ j) ↔ (l ≡ m)
       shared k g l m i j a b e f =
           let q = has k l a in
           let r = has g m b in
@@ -414,22 +415,22 @@ module _ (start : ℕ) (s : State) (h : Sound start [] s) where
   routine_unique (composite k xs) i j t m n = absurd t
   routine_unique (function xs) i j t m n =
       let e = equal_same s.declarations (type_function i xs) (type_function j xs) h.apart (record { plain = tt; opcode = refl; operands = refl }) (record { plain = tt; opcode = refl; operands = refl }) (h.routines (function xs) i t m) (h.routines (function xs) j t n) in
-      let f : some i ≡ some j = ap (λ (d : Instruction). d.result) e in cc
+      let f : Some i ≡ Some j = ap (λ (d : Instruction). d.result) e in cc
   routine_unique void i j t m n =
       let e = equal_same s.declarations (type_void i) (type_void j) h.apart (record { plain = tt; opcode = refl; operands = refl }) (record { plain = tt; opcode = refl; operands = refl }) (h.routines void i t m) (h.routines void j t n) in
-      let f : some i ≡ some j = ap (λ (d : Instruction). d.result) e in cc
+      let f : Some i ≡ Some j = ap (λ (d : Instruction). d.result) e in cc
 
-  routine_found : (c : Composite) (i : ℕ) → T (is_routine c) → Memᴰ (c, i) s.constants.composites → lookup same_composite c s.constants.composites ≡ some i
+  routine_found : (c : Composite) (i : ℕ) → T (is_routine c) → Memᴰ (c, i) s.constants.composites → lookup same_composite c s.constants.composites ≡ Some i
   routine_found c i t m = go (lookup same_composite c s.constants.composites) refl
     where
-      go : (o : Option ℕ) → lookup same_composite c s.constants.composites ≡ o → o ≡ some i
-      go none e = absurd (lookup_out same_composite c s.constants.composites e i m)
-      go (some j) e = ap some (routine_unique c j i t (lookup_in same_composite c s.constants.composites j e) m)
+      go : (o : Option ℕ) → lookup same_composite c s.constants.composites ≡ o → o ≡ Some i
+      go None e = absurd (lookup_out same_composite c s.constants.composites e i m)
+      go (Some j) e = ap Some (routine_unique c j i t (lookup_in same_composite c s.constants.composites j e) m)
 
   -- what a record names is entered under the ids of its signature
   result_is_lem : (o : Option ℕ) (x : ℕ) → ResultIs o s x → return_id s o ≡ x
-  result_is_lem none x m = ap (λ (o : Option ℕ). or_else 0 o) (routine_found void x tt m)
-  result_is_lem (some t) x m = ap (λ (o : Option ℕ). or_else 0 o) (found_id start s h t x m)
+  result_is_lem None x m = ap (λ (o : Option ℕ). or_else 0 o) (routine_found void x tt m)
+  result_is_lem (Some t) x m = ap (λ (o : Option ℕ). or_else 0 o) (found_id start s h t x m)
 
   ids_are : (ts xs : List ℕ) → AreIds ts s xs → entry_ids s ts ≡ xs
   unfolding entry_ids
@@ -442,7 +443,7 @@ module _ (start : ℕ) (s : State) (h : Sound start [] s) where
       λ j. e j ∷ f j
 
   -- an entered function type or void is what the reader finds under its id
-  routine_read : (c : Composite) (i : ℕ) → T (is_routine c) → Memᴰ (c, i) s.constants.composites → declaration_of (instructions s) i ≡ some (routine_of c i)
+  routine_read : (c : Composite) (i : ℕ) → T (is_routine c) → Memᴰ (c, i) s.constants.composites → declaration_of (instructions s) i ≡ Some (routine_of c i)
   routine_read c i t m =
       let r = no_other start s h i (h.constants.composites c i m) in
       declaration_found i (routine_result c i) (all_declarations start s h (h.routines c i t m)) (all_times start s h i ∙ each_once start s h i r.0 r.1)
@@ -465,8 +466,8 @@ module _ (start : ℕ) (s : State) (h : Sound start [] s) where
       by d o (inr r) = (r.id, subst (λ (c : Composite). Memᴰ (c, r.id) s.constants.composites) (is_void r.c r.id r.is (sym (ap (λ (x : Instruction). x.opcode) r.spells) ∙ o)) r.entered)
 
       go : (o : Option Instruction) → declaration_of (instructions s) i ≡ o → void_by o ≡ true → (j : ℕ) × Memᴰ (void, j) s.constants.composites
-      go none f t = let z : ◌≡◌ {A = ℕ} 0 1 = cc in absurd (omega arith)
-      go (some d) f t =
+      go None f t = let z : ◌≡◌ {A = ℕ} 0 1 = cc in absurd (omega arith)
+      go (Some d) f t =
           let o : d.opcode ≡ OpTypeVoid = eqb→eq d.opcode OpTypeVoid (rw t tt) in
           let p : T (plain_type d.opcode) = rw o tt in
           by d o (h.spelt d (plain_declared d p (declaration_in i (instructions s) d f)) p)
@@ -478,8 +479,8 @@ module _ (start : ℕ) (s : State) (h : Sound start [] s) where
       λ e.
           let p = function_read (signature_of s f) i a in
           let q = function_read (signature_of s g) j b in
-          let z : some (signature_of s f) ≡ some (signature_of s g) = sym p ∙ ap (read_function (instructions s)) e ∙ q in cc,
-      λ e. let z : some i ≡ some j = sym a ∙ ap (λ (xs : List ℕ). lookup same_composite (function xs) s.constants.composites) e ∙ b in cc,
+          let z : Some (signature_of s f) ≡ Some (signature_of s g) = sym p ∙ ap (read_function (instructions s)) e ∙ q in cc,
+      λ e. let z : Some i ≡ Some j = sym a ∙ ap (λ (xs : List ℕ). lookup same_composite (function xs) s.constants.composites) e ∙ b in cc,
     );
     declared = λ f m.
         let n = signed f m in
@@ -490,12 +491,12 @@ module _ (start : ℕ) (s : State) (h : Sound start [] s) where
     void_returned = λ i e. let v = void_entered i e in voids v.0 v.1;
   }
     where
-      function_read : (xs : List ℕ) (i : ℕ) → lookup same_composite (function xs) s.constants.composites ≡ some i → read_function (instructions s) i ≡ some xs
+      function_read : (xs : List ℕ) (i : ℕ) → lookup same_composite (function xs) s.constants.composites ≡ Some i → read_function (instructions s) i ≡ Some xs
       function_read xs i e = rw (routine_read (function xs) i tt (lookup_in same_composite (function xs) s.constants.composites i e)) refl
 
-      void_read : (o : Option ℕ) → o ≡ none → (x : ℕ) → ResultIs o s x → read_void (instructions s) (return_id s o) ≡ true
-      void_read none e x m = rw (routine_found void x tt m, routine_read void x tt m) refl
-      void_read (some t) e x m = let z : ◌≡◌ {A = ℕ} 0 1 = cc in absurd (omega arith)
+      void_read : (o : Option ℕ) → o ≡ None → (x : ℕ) → ResultIs o s x → read_void (instructions s) (return_id s o) ≡ true
+      void_read None e x m = rw (routine_found void x tt m, routine_read void x tt m) refl
+      void_read (Some t) e x m = let z : ◌≡◌ {A = ℕ} 0 1 = cc in absurd (omega arith)
 
 -- Whatever sheet the definition finds fit, whoever reads its words finds it well declared.
 pub demand_3 : Demand3

@@ -5,7 +5,7 @@ use Prim.Native.Nat.{ℕ, suc, zero, ◌/◌, ◌%◌, ◌<◌, ◌≤◌}
 use mathlib.Core.Path.{◌≡◌, refl, sym, ap, ◌∙◌, subst}
 use mathlib.Core.Logic.{◌⊎◌, inl, inr}
 use mathlib.Core.List.{List, [], ◌∷◌, ◌++◌, Memᴰ}
-use mathlib.Core.Option.{Option, some, none}
+use Rattle.std.specs.Prelude.{Option, Some, None}
 use mathlib.Core.Bool.{Bool, true, false}
 use native.Mathlib.Omega.{arith}
 use lib.Dec.{T, eqb, lit<, lit≤}
@@ -101,8 +101,8 @@ Grounded types (entry h) = Entered types h
 Grounded types (shape l) = Grounds types l
 
 abbrev GroundedIn : List (Key × ℕ) → Option Key → Type 0
-GroundedIn types none = Unit
-GroundedIn types (some k) = Grounded types k
+GroundedIn types None = Unit
+GroundedIn types (Some k) = Grounded types k
 
 -- a shape that names no entry
 pub free_grounded : (types : List (Key × ℕ)) (l : Shape) → named l ≡ [] → SmallShape l → Grounds types l
@@ -145,7 +145,7 @@ more_declared x xs s h g u m = go (mathlib.Core.List.Memᴰ.cases_cons m)
     go (inr n) = g u n
 
 -- an id is declared by the instruction that was written last
-pub just_declared : (id : ℕ) (d : Instruction) (s : State) → d.result ≡ some id → 1 ≤ times id (declare_alone d s).declarations
+pub just_declared : (id : ℕ) (d : Instruction) (s : State) → d.result ≡ Some id → 1 ≤ times id (declare_alone d s).declarations
 just_declared id d s e = omega (arith, times_snoc id s.declarations d, ap (λ (o : Option ℕ). once o id) e, same_itself id)
 
 pub record GotId (start : ℕ) (P : List (ℕ × ℕ)) (s : State) (g : Got) : Type 0 where
@@ -155,7 +155,7 @@ pub record GotId (start : ℕ) (P : List (ℕ × ℕ)) (s : State) (g : Got) : T
 
 -- what an instruction of a value is, written with its type's id and its own, in a state that declares the other ids it uses
 pub record Writes (s : State) (write : ℕ → ℕ → Instruction) : Type 0 where
-  pub result : (t id : ℕ) → (write t id).result ≡ some id
+  pub result : (t id : ℕ) → (write t id).result ≡ Some id
   pub formed : (t id : ℕ) → Formed (write t id)
   pub fits : (last t id : ℕ) → t ≤ last → id ≤ last → s.last ≤ last → Sized last (write t id)
   pub other : (t id : ℕ) → T (plain_type (write t id).opcode) → ⊥
@@ -246,8 +246,8 @@ both_declared xs ys s f g u m = go (mathlib.Core.List.Memᴰ.append_cases xs m)
     go (inr n) = g u n
 
 fits_grew : {s t : State} → Grew s t → (o : Option Key) (x : ℕ) → FitsIn s.types o x → FitsIn t.types o x
-fits_grew w none x f = f
-fits_grew w (some k) x f = w.more k x f
+fits_grew w None x f = f
+fits_grew w (Some k) x f = w.more k x f
 
 shallow_key : (k : Key) → rank k ≤ 2
 shallow_key (entry h) = omega arith
@@ -304,9 +304,9 @@ module _ (start : ℕ) where
 
   -- a value that is found, or takes its id, finds its type and is declared
   pub value_found : (n : ℕ) (f : Key → State → Got) → Finds n f → (o : Option ℕ) (k : Key) (write : ℕ → ℕ → Instruction) (note : ℕ → Constants → Constants) (s : State) (P : List (ℕ × ℕ))
-      → ((i : ℕ) → o ≡ some i → 1 ≤ times i s.declarations) → Writes s write → Keeps note → Over (rank k) P → Grounded s.types k → rank k < n → Sound start P s → GotId start P s (or_new_value o f k write note s)
-  value_found n f fs (some i) k write note s P old w kp ov gr deep h = record { sound = h; grew = grew_refl s; declared = old i refl }
-  value_found n f fs none k write note s P old w kp ov gr deep h =
+      → ((i : ℕ) → o ≡ Some i → 1 ≤ times i s.declarations) → Writes s write → Keeps note → Over (rank k) P → Grounded s.types k → rank k < n → Sound start P s → GotId start P s (or_new_value o f k write note s)
+  value_found n f fs (Some i) k write note s P old w kp ov gr deep h = record { sound = h; grew = grew_refl s; declared = old i refl }
+  value_found n f fs None k write note s P old w kp ov gr deep h =
       let id = suc s.last in
       let g = f k (take_id s) in
       let r : Found start ((9, id) ∷ P) (take_id s) k g = fs k (take_id s) ((9, id) ∷ P) deep (omega (arith, shallow_key k), ov) gr (take_sound start 9 P s h) in
@@ -337,15 +337,15 @@ module _ (start : ℕ) where
   -- the inner type and the length
   inner_got_lem : (l : Shape) (f : Key → State → Got) (o : Option Key) (s : State) (P : List (ℕ × ℕ)) → Finds (rank_of l) f → Deeper o (rank_of l) → Over (rank_of l) P → GroundedIn s.types o
       → (id : ℕ) → Sound start ((rank_of l, id) ∷ P) s → GotPart start ((rank_of l, id) ∷ P) s (FitsIn (inner_got o f s).state.types o (inner_got o f s).id) (inner_ids o (inner_got o f s).id) (inner_got o f s)
-  inner_got_lem l f none s P fs d o g id h = record { sound = h; grew = grew_refl s; fits = refl; low = omega arith; declared = λ u m. absurd (mathlib.Core.List.Memᴰ.not-nil m) }
-  inner_got_lem l f (some k) s P fs d o g id h =
+  inner_got_lem l f None s P fs d o g id h = record { sound = h; grew = grew_refl s; fits = refl; low = omega arith; declared = λ u m. absurd (mathlib.Core.List.Memᴰ.not-nil m) }
+  inner_got_lem l f (Some k) s P fs d o g id h =
       let r = fs k s ((rank_of l, id) ∷ P) d (d, over_less (rank k) (rank_of l) P d o) g h in
       record { sound = r.sound; grew = r.grew; fits = r.has; low = r.sound.bounded k (f k s).id r.has; declared = one_declared (f k s).id (f k s).state r.declared }
 
   length_got_lem : (l : Shape) (f : Key → State → Got) (o : Option ℕ) (s : State) (P : List (ℕ × ℕ)) → Finds (rank_of l) f → Inside o (rank_of l) → SmallLength o → Over (rank_of l) P
       → (id : ℕ) → Sound start ((rank_of l, id) ∷ P) s → GotPart start ((rank_of l, id) ∷ P) s (FitsLength o (length_got o f s).id) (length_ids o (length_got o f s).id) (length_got o f s)
-  length_got_lem l f none s P fs d small o id h = record { sound = h; grew = grew_refl s; fits = refl; low = omega arith; declared = λ u m. absurd (mathlib.Core.List.Memᴰ.not-nil m) }
-  length_got_lem l f (some n) s P fs d small o id h =
+  length_got_lem l f None s P fs d small o id h = record { sound = h; grew = grew_refl s; fits = refl; low = omega arith; declared = λ u m. absurd (mathlib.Core.List.Memᴰ.not-nil m) }
+  length_got_lem l f (Some n) s P fs d small o id h =
       let r = literal_found (rank_of l) f fs (u32 n) small s ((rank_of l, id) ∷ P) (d, over_less 0 (rank_of l) P d o) d h in
       let g = literal_with f (u32 n) s in
       record { sound = r.sound; grew = r.grew; fits = tt; low = low ((rank_of l, id) ∷ P) g.state g.id r.sound r.declared; declared = one_declared g.id g.state r.declared }
@@ -386,9 +386,9 @@ module _ (start : ℕ) where
           by (inr p) = settled_declared p
 
       go : (k : Key) → Finds (rank k) f → Over (rank k) P → Grounded s.types k → (a : Option ℕ) → lookup same_key k s.types ≡ a → Found start P s k (or_new_key a f k s)
-      go k fs o g (some i) e = let m = lookup_in same_key k s.types i e in record { sound = h; grew = grew_refl s; has = m; declared = old k i o m }
-      go (entry k) fs o g none e = absurd (lookup_out same_key (entry k) s.types e g.0 g.1)
-      go (shape l) fs o g none e = new_found f l s P fs o g (lookup_out same_key (shape l) s.types e) h
+      go k fs o g (Some i) e = let m = lookup_in same_key k s.types i e in record { sound = h; grew = grew_refl s; has = m; declared = old k i o m }
+      go (entry k) fs o g None e = absurd (lookup_out same_key (entry k) s.types e g.0 g.1)
+      go (shape l) fs o g None e = new_found f l s P fs o g (lookup_out same_key (shape l) s.types e) h
 
   pub find_at_found : (n : ℕ) → Finds (suc n) (find_at n)
   unfolding find_at

@@ -4,7 +4,7 @@ use Prim.Native.Nat.{ℕ, ◌*◌, ◌≤◌}
 use mathlib.Core.Path.{◌≡◌, subst, refl}
 use mathlib.Core.List.{List, [], ◌∷◌, Memᴰ}
 use mathlib.Core.Logic.{inl, inr}
-use mathlib.Core.Option.{Option, some, none}
+use Rattle.std.specs.Prelude.{Option, Some, None}
 use mathlib.Core.Bool.{Bool, true, false, ◌&&◌}
 use native.Mathlib.Omega.{arith}
 use lib.Dec.{T, eqb, leb, leb→le, lit≤}
@@ -115,8 +115,8 @@ value_facts n k w s a hn hw =
 
 -- every type that has a shape
 abbrev ShapedFacts : TypeInner → Option Shape → Type 0
-ShapedFacts i none = Unit
-ShapedFacts i (some l) = ShapeFacts i l
+ShapedFacts i None = Unit
+ShapedFacts i (Some l) = ShapeFacts i l
 
 shaped_facts : (i : TypeInner) → GoodInner i → ShapedFacts i (shape_of i)
 shaped_facts (Scalar k w) g = record { small = kind_small k w g; references = λ b m. m }
@@ -133,13 +133,13 @@ shaped_facts AccelerationStructure g = record { small = tt; references = λ b m.
 shaped_facts RayQuery g = record { small = tt; references = λ b m. m }
 shaped_facts (BindingArray b n) g = tt
 
-pub shape_facts : (i : TypeInner) (l : Shape) → GoodInner i → shape_of i ≡ some l → ShapeFacts i l
+pub shape_facts : (i : TypeInner) (l : Shape) → GoodInner i → shape_of i ≡ Some l → ShapeFacts i l
 shape_facts i l g e = subst (ShapedFacts i) e (shaped_facts i g)
 
 -- a type that is no aggregate and no pointer has such a shape
 abbrev PlainShaped : Option Shape → Type 0
-PlainShaped none = Unit
-PlainShaped (some l) = T (plain_type (opcode_of l))
+PlainShaped None = Unit
+PlainShaped (Some l) = T (plain_type (opcode_of l))
 
 plain_shaped : (i : TypeInner) → T (plain_entry i) → PlainShaped (shape_of i)
 unfolding image_of
@@ -157,14 +157,14 @@ plain_shaped AccelerationStructure t = tt
 plain_shaped RayQuery t = tt
 plain_shaped (BindingArray b n) t = tt
 
-pub plain_shape : (i : TypeInner) (l : Shape) → T (plain_entry i) → shape_of i ≡ some l → T (plain_type (opcode_of l))
+pub plain_shape : (i : TypeInner) (l : Shape) → T (plain_entry i) → shape_of i ≡ Some l → T (plain_type (opcode_of l))
 plain_shape i l t e = subst PlainShaped e (plain_shaped i t)
 
 -- ---- strides
 
 abbrev pub SmallStride : Option ℕ → Type 0
-SmallStride none = Unit
-SmallStride (some n) = n ≤ W
+SmallStride None = Unit
+SmallStride (Some n) = n ≤ W
 
 stride_le : (b : Bool) (w : ℕ) → w ≤ 255 → pick b 2 4 * w ≤ W
 stride_le true w h = omega arith

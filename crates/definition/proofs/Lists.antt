@@ -5,10 +5,11 @@ use mathlib.Core.Path.{◌≡◌, refl, sym, ap, ◌∙◌}
 use mathlib.Core.Logic.{◌⊎◌, inl, inr, ◌≢◌}
 use mathlib.Core.List.Memᴰ
 use mathlib.Core.List.{List, [], ◌∷◌, ◌++◌, append_assoc, Memᴰ, append-nil}
-use mathlib.Core.Option.{some, none}
+use Rattle.std.specs.Prelude.{Some, None}
 use mathlib.Core.Bool.{Bool, true, false}
 use native.Mathlib.Omega.{arith}
-use lib.ListN.{length, get_or, get_elem?}
+use Rattle.std.specs.List.{slice_get}
+use lib.ListN.{length, get_or}
 use lib.Dec.{eqb, leb, eqb→eq, leb→le, nleb→lt}
 use borrow.Author.Tests.{eq-eqb, le-leb, lt-leb}
 use Rattle.definition.specs.Choice.{pick}
@@ -94,22 +95,22 @@ equal_types_snoc (y ∷ xs) x h n = (λ j m t. go j t (snoc_cases xs m), equal_t
     go j t (inr e) = n y (Memᴰ.head refl) (rw e at t)
 
 -- the table
-pub lookup_in : {A : Type 0} (d : Discrete A) (k : A) (xs : List (A × ℕ)) (i : ℕ) → lookup d k xs ≡ some i → Memᴰ (k, i) xs
+pub lookup_in : {A : Type 0} (d : Discrete A) (k : A) (xs : List (A × ℕ)) (i : ℕ) → lookup d k xs ≡ Some i → Memᴰ (k, i) xs
 unfolding lookup
 lookup_in d k [] i e = absurd (let z : ◌≡◌ {A = ℕ} 0 1 = cc in omega arith)
 lookup_in {A} d k (x ∷ xs) i e = go (d k x.0) refl (lookup_in d k xs i)
   where
-    go : (c : Dec (k ≡ x.0)) → d k x.0 ≡ c → (lookup d k xs ≡ some i → Memᴰ (k, i) xs) → Memᴰ (k, i) (x ∷ xs)
-    go (yes p) q ih = let e' : some x.1 ≡ some i = rw (q, lookup) at e in let f : x.1 ≡ i = cc in Memᴰ.head (λ j. (p j, sym f j))
+    go : (c : Dec (k ≡ x.0)) → d k x.0 ≡ c → (lookup d k xs ≡ Some i → Memᴰ (k, i) xs) → Memᴰ (k, i) (x ∷ xs)
+    go (yes p) q ih = let e' : Some x.1 ≡ Some i = rw (q, lookup) at e in let f : x.1 ≡ i = cc in Memᴰ.head (λ j. (p j, sym f j))
     go (no p) q ih = Memᴰ.tail (ih (rw (q, lookup) at e))
 
-pub lookup_out : {A : Type 0} (d : Discrete A) (k : A) (xs : List (A × ℕ)) → lookup d k xs ≡ none → (i : ℕ) → Memᴰ (k, i) xs → ⊥
+pub lookup_out : {A : Type 0} (d : Discrete A) (k : A) (xs : List (A × ℕ)) → lookup d k xs ≡ None → (i : ℕ) → Memᴰ (k, i) xs → ⊥
 unfolding lookup
 lookup_out d k [] e i m = Memᴰ.not-nil m
 lookup_out {A} d k (x ∷ xs) e i m = go (d k x.0) refl (λ f. lookup_out d k xs f i) (Memᴰ.cases_cons m)
   where
-    go : (c : Dec (k ≡ x.0)) → d k x.0 ≡ c → (lookup d k xs ≡ none → Memᴰ (k, i) xs → ⊥) → (Path (A × ℕ) (k, i) x) ⊎ Memᴰ (k, i) xs → ⊥
-    go (yes p) q ih c = let e' : some x.1 ≡ none = rw (q, lookup) at e in let z : ◌≡◌ {A = ℕ} 0 1 = cc in omega arith
+    go : (c : Dec (k ≡ x.0)) → d k x.0 ≡ c → (lookup d k xs ≡ None → Memᴰ (k, i) xs → ⊥) → (Path (A × ℕ) (k, i) x) ⊎ Memᴰ (k, i) xs → ⊥
+    go (yes p) q ih c = let e' : Some x.1 ≡ None = rw (q, lookup) at e in let z : ◌≡◌ {A = ℕ} 0 1 = cc in omega arith
     go (no p) q ih (inl f) = p (ap (λ (y : A × ℕ). y.0) f)
     go (no p) q ih (inr m') = ih (rw (q, lookup) at e) m'
 
@@ -162,13 +163,13 @@ get_or_snoc P (x ∷ xs) a d f p zero = f 0
 get_or_snoc P (x ∷ xs) a d f p (suc h) = get_or_snoc P xs a d (λ k. f (suc k)) p h
 
 -- an element of the longer list is one of the shorter, or the last
-pub element_snoc : {A : Type 0} (xs : List A) (a b : A) (h : ℕ) → get_elem? (xs ++ a ∷ []) h ≡ some b → (get_elem? xs h ≡ some b) ⊎ ((h ≡ length xs) × (a ≡ b))
-element_snoc [] a b zero e = inr (refl, let q : some a ≡ some b = e in cc)
+pub element_snoc : {A : Type 0} (xs : List A) (a b : A) (h : ℕ) → slice_get (xs ++ a ∷ []) h ≡ Some b → (slice_get xs h ≡ Some b) ⊎ ((h ≡ length xs) × (a ≡ b))
+element_snoc [] a b zero e = inr (refl, let q : Some a ≡ Some b = e in cc)
 element_snoc [] a b (suc h) e = let z : ◌≡◌ {A = ℕ} 0 1 = cc in absurd (omega arith)
 element_snoc (x ∷ xs) a b zero e = inl e
 element_snoc (x ∷ xs) a b (suc h) e = go (element_snoc xs a b h e)
   where
-    go : (get_elem? xs h ≡ some b) ⊎ ((h ≡ length xs) × (a ≡ b)) → (get_elem? (x ∷ xs) (suc h) ≡ some b) ⊎ ((suc h ≡ suc (length xs)) × (a ≡ b))
+    go : (slice_get xs h ≡ Some b) ⊎ ((h ≡ length xs) × (a ≡ b)) → (slice_get (x ∷ xs) (suc h) ≡ Some b) ⊎ ((suc h ≡ suc (length xs)) × (a ≡ b))
     go (inl p) = inl p
     go (inr p) = inr (ap suc p.0, p.1)
 

@@ -4,7 +4,7 @@ use Prim.Native.Nat.{ℕ, suc, ◌+◌, ◌<◌, ◌≤◌}
 use mathlib.Core.Path.{◌≡◌, refl}
 use mathlib.Core.List.Memᴰ
 use mathlib.Core.List.{List, [], ◌∷◌, Memᴰ}
-use mathlib.Core.Option.{some, none}
+use Rattle.std.specs.Prelude.{Some, None}
 use mathlib.Core.Bool.{Bool, true, false}
 use native.Mathlib.Omega.{arith}
 use lib.Dec.{eqb, lit≤}
@@ -32,8 +32,8 @@ pub record Spelled (bs : List ℕ) : Type 0 where
   pub short : length (packed bs) ≤ 64
 
 abbrev pub GoodName : Name → Type 0
-GoodName none = Unit
-GoodName (some bs) = Spelled bs
+GoodName None = Unit
+GoodName (Some bs) = Spelled bs
 
 -- the targets
 decorate_target : (id d : ℕ) (xs : List ℕ) (t : ℕ) → Memᴰ t (targets (decorate id d xs ∷ [])) → t ≡ id
@@ -68,8 +68,8 @@ once_grew id s = pick_for (Grew s) (among id (blocked s.annotations)) s (annotat
 
 pub label_if_grew : (b : Bool) (write : List ℕ → Instruction) (n : Name) (s : State) → Grew s (label_if b write n s)
 label_if_grew false write n s = grew_refl s
-label_if_grew true write none s = grew_refl s
-label_if_grew true write (some bs) s = label_grew (write bs) s
+label_if_grew true write None s = grew_refl s
+label_if_grew true write (Some bs) s = label_grew (write bs) s
 
 -- an id that is declared, or taken and not yet declared
 abbrev pub Taken : ℕ → List (ℕ × ℕ) → State → Type 0
@@ -115,8 +115,8 @@ module _ (start : ℕ) (id : ℕ) (P : List (ℕ × ℕ)) where
 
   pub name_kept : (b : Bool) (n : Name) (s : State) → GoodName n → Taken id P s → Sound start P s → Sound start P (label_if b (name id) n s)
   name_kept false n s g t h = h
-  name_kept true none s g t h = h
-  name_kept true (some bs) s g t h =
+  name_kept true None s g t h = h
+  name_kept true (Some bs) s g t h =
       name_sound start id (name id bs) P s
       (record {
         formed = taken (rw g.string tt);
@@ -128,8 +128,8 @@ module _ (start : ℕ) (id : ℕ) (P : List (ℕ × ℕ)) where
 
   pub member_name_kept : (b : Bool) (i : ℕ) (n : Name) (s : State) → i ≤ W → GoodName n → Taken id P s → Sound start P s → Sound start P (label_if b (member_name id i) n s)
   member_name_kept false i n s iw g t h = h
-  member_name_kept true i none s iw g t h = h
-  member_name_kept true i (some bs) s iw g t h =
+  member_name_kept true i None s iw g t h = h
+  member_name_kept true i (Some bs) s iw g t h =
       name_sound start id (member_name id i bs) P s
       (record {
         formed = taken (rw g.string tt);
@@ -159,8 +159,8 @@ fresh_bare start P s h =
 -- a name decorates nothing
 pub label_if_notes : (b : Bool) (write : List ℕ → Instruction) (n : Name) (s : State) → (label_if b write n s).annotations ≡ s.annotations
 label_if_notes false write n s = refl
-label_if_notes true write none s = refl
-label_if_notes true write (some bs) s = refl
+label_if_notes true write None s = refl
+label_if_notes true write (Some bs) s = refl
 
 -- one decoration of an id leaves another open
 pub decorate_if_other : (b : Bool) (id d e : ℕ) (s : State) → eqb d e ≡ false → times_decorated id d (annotate_if b (decorate id e []) s).annotations ≡ times_decorated id d s.annotations

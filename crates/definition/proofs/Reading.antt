@@ -3,7 +3,7 @@
 use Prim.Native.Nat.{ℕ, suc, zero, ◌+◌, ◌*◌, ◌-◌, ◌/◌, ◌%◌, ◌<◌, ◌≤◌}
 use mathlib.Core.Path.{◌≡◌, refl, ap, ◌∙◌}
 use mathlib.Core.List.{List, [], ◌∷◌, ◌++◌, Memᴰ}
-use mathlib.Core.Option.{Option, some, none}
+use Rattle.std.specs.Prelude.{Option, Some, None}
 use mathlib.Core.Bool.{true}
 use native.Mathlib.Omega.{arith}
 use borrow.Author.Tests.{le-leb, lt-ltb}
@@ -23,21 +23,21 @@ pub record Readable (last : ℕ) (d : Instruction) : Type 0 where
   pub formed : Formed d
   pub fits : Sized last d
 
-pub split_body : (o : ℕ) (t r : Option ℕ) (xs : List ℕ) → split o (declares_id t) (declares_id r) (optional t ++ (optional r ++ xs)) ≡ some (record { opcode = o; type = t; result = r; operands = xs })
-split_body o none none xs = refl
-split_body o none (some r) xs = refl
-split_body o (some t) none xs = refl
-split_body o (some t) (some r) xs = refl
+pub split_body : (o : ℕ) (t r : Option ℕ) (xs : List ℕ) → split o (declares_id t) (declares_id r) (optional t ++ (optional r ++ xs)) ≡ Some (record { opcode = o; type = t; result = r; operands = xs })
+split_body o None None xs = refl
+split_body o None (Some r) xs = refl
+split_body o (Some t) None xs = refl
+split_body o (Some t) (Some r) xs = refl
 
-one_checked : (i : Instruction) → Formed i → checked (split i.opcode (declares_id i.type) (declares_id i.result) (body i)) ≡ some i
+one_checked : (i : Instruction) → Formed i → checked (split i.opcode (declares_id i.type) (declares_id i.result) (body i)) ≡ Some i
 one_checked i f = ap checked (split_body i.opcode i.type i.result i.operands) ∙ rw f.operands refl
 
 one_read : (i : Instruction) (c n o : ℕ) (rest : List ℕ) → Formed i → 1 ≤ c → length (body i) ≡ n → o ≡ i.opcode
-    → read_one (leb 1 c) (leb n (length (body i ++ rest))) (layout_of o).known o (take n (body i ++ rest)) ≡ some i
+    → read_one (leb 1 c) (leb n (length (body i ++ rest))) (layout_of o).known o (take n (body i ++ rest)) ≡ Some i
 one_read i c n o rest f pos e q =
     rw (le-leb 1 c pos, le-leb n (length (body i ++ rest)) (omega (arith, length-append (body i) rest)), take_at (body i) rest n e, q, f.known, f.typed, f.declares) (one_checked i f)
 
-all_read : (is : List Instruction) (fuel : ℕ) → length (all_words is) ≤ fuel → ((i : Instruction) → Memᴰ i is → Formed i) → read_all fuel (all_words is) ≡ some is
+all_read : (is : List Instruction) (fuel : ℕ) → length (all_words is) ≤ fuel → ((i : Instruction) → Memᴰ i is → Formed i) → read_all fuel (all_words is) ≡ Some is
 unfolding read_all all_words words
 all_read [] zero h w = refl
 all_read [] (suc fuel) h w = refl
@@ -48,11 +48,11 @@ all_read (i ∷ is) (suc fuel) h w =
     let small : i.opcode < 65536 = fi.small in
     let n : length (body i) ≡ word / 65536 - 1 = omega arith in
     let o : word % 65536 ≡ i.opcode = omega arith in
-    let rest : read_all fuel (all_words is) ≡ some is = all_read is fuel (omega (arith, length-append (body i) (all_words is))) (λ j m. w j (Memᴰ.tail m)) in
+    let rest : read_all fuel (all_words is) ≡ Some is = all_read is fuel (omega (arith, length-append (body i) (all_words is))) (λ j m. w j (Memᴰ.tail m)) in
     let first = one_read i (word / 65536) (word / 65536 - 1) (word % 65536) (all_words is) fi (omega arith) n o in
     ap (λ (a : Option Instruction). joined a (read_all fuel (drop (word / 65536 - 1) (body i ++ all_words is)))) first
-    ∙ (ap (λ (ws : List ℕ). joined (some i) (read_all fuel ws)) (drop_at (body i) (all_words is) (word / 65536 - 1) n)
-    ∙ ap (λ (a : Option (List Instruction)). joined (some i) a) rest)
+    ∙ (ap (λ (ws : List ℕ). joined (Some i) (read_all fuel ws)) (drop_at (body i) (all_words is) (word / 65536 - 1) n)
+    ∙ ap (λ (a : Option (List Instruction)). joined (Some i) a) rest)
 
 -- ---- every word fits
 
@@ -72,10 +72,10 @@ all_fit last (i ∷ is) l r = under-append W (words i) (all_words is) (one_fits 
 -- ---- the module
 
 pub module_read : (s : State) → bound_of s ≤ W → ((i : Instruction) → Memᴰ i (instructions s) → Readable s.last i)
-    → read_module (module_words s) ≡ some (record { version = 0x00010300; generator = 28; bound = bound_of s; instructions = instructions s })
+    → read_module (module_words s) ≡ Some (record { version = 0x00010300; generator = 28; bound = bound_of s; instructions = instructions s })
 unfolding read_module module_words
 module_read s low r =
     let ws = all_words (instructions s) in
     let fit : every is_word ws ≡ true = under_words ws (all_fit s.last (instructions s) (omega arith) r) in
-    let back : read_all (suc (suc (suc (suc (suc (length ws)))))) ws ≡ some (instructions s) = all_read (instructions s) (suc (suc (suc (suc (suc (length ws)))))) (omega arith) (λ i m. (r i m).formed) in
+    let back : read_all (suc (suc (suc (suc (suc (length ws)))))) ws ≡ Some (instructions s) = all_read (instructions s) (suc (suc (suc (suc (suc (length ws)))))) (omega arith) (λ i m. (r i m).formed) in
     rw (le-leb 5 (suc (suc (suc (suc (suc (length ws)))))) (omega arith), lt-ltb (bound_of s) 4294967296 (omega arith), fit, back)

@@ -5,11 +5,12 @@ use mathlib.Core.Path.{◌≡◌, refl, ap, ◌∙◌, subst}
 use mathlib.Core.Logic.{◌⊎◌, inl, inr, ⊎_elim}
 use mathlib.Core.List.Memᴰ
 use mathlib.Core.List.{List, [], ◌∷◌, ◌++◌, Memᴰ}
-use mathlib.Core.Option.{some}
+use Rattle.std.specs.Prelude.{Some}
 use mathlib.Core.Bool.{Bool, true, false}
 use native.Mathlib.Omega.{arith}
 use lib.Dec.{leb, leb→le}
-use lib.ListN.{length, get_elem?, drop, length-take, length-drop, length-append}
+use Rattle.std.specs.List.{slice_get}
+use lib.ListN.{length, drop, length-take, length-drop, length-append}
 use Rattle.definition.specs.Choice.{pick, within}
 use Rattle.definition.specs.Bytes.{u16_at}
 use Rattle.definition.specs.Sheet.{Options, Record, TypeEntry, Function, Expression, Global, Remap, Entry, record_at, after_record, header_length, start_of, flags_of, options_of, entry_of, tag_rank, available, remap, type, function, constant, global}
@@ -43,7 +44,7 @@ pub record Good (start : ℕ) (p : Progress) : Type 0 where
   pub types : GoodTypes p.seen.types
   pub referring : Referring p.seen.types
   pub remaps : GoodRemaps p.seen.remaps
-  pub told : (h : ℕ) (t : TypeEntry) → get_elem? p.seen.types h ≡ some t → Told h (shape_of t.inner) p.state.types
+  pub told : (h : ℕ) (t : TypeEntry) → slice_get p.seen.types h ≡ Some t → Told h (shape_of t.inner) p.state.types
   pub functions : (f : Function) → Memᴰ f p.seen.functions → Signed f p.state
   pub voids : (i : ℕ) → Memᴰ (void, i) p.state.constants.composites → VoidReturned p.seen.functions
 
@@ -83,8 +84,8 @@ module _ (start : ℕ) (o : Options) (k : ℕ) where
         voids = λ i m. h.voids i (d.routines void i tt m);
       }
     where
-      told : (ts : List TypeEntry) (u s : State) → ((i : ℕ) (x : TypeEntry) → get_elem? ts i ≡ some x → Told i (shape_of x.inner) s.types) → ((k : Key) (i : ℕ) → Memᴰ (k, i) s.types → Memᴰ (k, i) u.types) → Told (length ts) (shape_of t.inner) u.types
-          → (i : ℕ) (x : TypeEntry) → (get_elem? ts i ≡ some x) ⊎ ((i ≡ length ts) × (t ≡ x)) → Told i (shape_of x.inner) u.types
+      told : (ts : List TypeEntry) (u s : State) → ((i : ℕ) (x : TypeEntry) → slice_get ts i ≡ Some x → Told i (shape_of x.inner) s.types) → ((k : Key) (i : ℕ) → Memᴰ (k, i) s.types → Memᴰ (k, i) u.types) → Told (length ts) (shape_of t.inner) u.types
+          → (i : ℕ) (x : TypeEntry) → (slice_get ts i ≡ Some x) ⊎ ((i ≡ length ts) × (t ≡ x)) → Told i (shape_of x.inner) u.types
       told ts u s old more last i x (inl e) = told_more i (shape_of x.inner) s.types u.types more (old i x e)
       told ts u s old more last i x (inr e) = rw e.0 (subst (λ (y : TypeEntry). Told (length ts) (shape_of y.inner) u.types) e.1 last)
 

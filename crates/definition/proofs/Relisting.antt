@@ -6,7 +6,7 @@ use mathlib.Core.Path.{◌≡◌, refl, sym, ◌∙◌, subst}
 use mathlib.Core.Bool.{Bool, true, false}
 use mathlib.Core.List.{List, [], ◌∷◌, ◌++◌, Memᴰ}
 use mathlib.Core.Logic.{◌⊎◌, inl, inr}
-use mathlib.Core.Option.{Option, some, none}
+use Rattle.std.specs.Prelude.{Option, Some, None}
 use native.Mathlib.Omega.{arith}
 use borrow.Author.Tests.{le-leb, eq-eqb, leb-true, eqb-true}
 use lib.Dec.{leb}
@@ -50,7 +50,7 @@ join_past (suc k) (x ∷ l) = join_past k l
 -- words behind a first one, no fewer than the layout has before the operands: what the Reader makes of them, put together again
 record Back (o : ℕ) (t d : Bool) (b : List ℕ) : Type 0 where
   one : Instruction
-  is : split o t d b ≡ some one
+  is : split o t d b ≡ Some one
   opcode : one.opcode ≡ o
   back : words (instruction_of o t d (or_else 0 one.result) (others one)) ≡ (65536 * suc (length b) + o) ∷ b
 
@@ -275,10 +275,10 @@ operands_met (id_or_none ∷ os) (x ∷ []) k e f = (omega arith, omega arith)
 operands_met (id_or_none ∷ os) (x ∷ (y ∷ xs)) k e f = let z : ◌≡◌ {A = ℕ} 0 1 = cc in absurd (omega arith)
 
 before_body : (t r : Option ℕ) (xs : List ℕ) → words_before (declares_id t) (declares_id r) + length xs ≡ suc (length (optional t ++ (optional r ++ xs)))
-before_body none none xs = omega arith
-before_body none (some r) xs = omega arith
-before_body (some t) none xs = omega arith
-before_body (some t) (some r) xs = omega arith
+before_body None None xs = omega arith
+before_body None (Some r) xs = omega arith
+before_body (Some t) None xs = omega arith
+before_body (Some t) (Some r) xs = omega arith
 
 one_written : (i : Instruction) → Formed i → is_written i.opcode (suc (length (body i))) ≡ true
 unfolding is_written

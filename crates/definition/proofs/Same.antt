@@ -4,7 +4,7 @@ use Prim.Native.Nat.{ℕ, suc, zero, ◌+◌, ◌*◌, ◌/◌, ◌%◌, ◌<◌
 use mathlib.Core.Bool.{Bool, true, false, ◌&&◌}
 use mathlib.Core.List.{List, [], ◌∷◌, ◌++◌}
 use mathlib.Core.Logic.{◌↔◌}
-use mathlib.Core.Option.{some, none}
+use Rattle.std.specs.Prelude.{Some, None}
 use mathlib.Core.Path.{◌≡◌, refl, sym, ap, ◌∙◌}
 use native.Mathlib.Numerals.{add-one}
 use native.Mathlib.Omega.{arith}
@@ -31,8 +31,8 @@ abbrev be32 : ℕ → List ℕ
 be32 x = be16 (x / 65536) ++ be16 (x % 65536)
 
 abbrev name_bytes : Name → List ℕ
-name_bytes none = 255 ∷ []
-name_bytes (some bs) = length bs ∷ bs
+name_bytes None = 255 ∷ []
+name_bytes (Some bs) = length bs ∷ bs
 
 abbrev member_bytes : List Member → List ℕ
 member_bytes [] = []
@@ -104,7 +104,7 @@ module _ (b : List ℕ) (u : Under 255 b) where
   called n xs l h = go (eqb (u8_at b n) 255) refl l h
     where
       go : (c : Bool) → eqb (u8_at b n) 255 ≡ c → pick c (n + 1) (n + 1 + u8_at b n) ≤ length b → drop (pick c (n + 1) (n + 1 + u8_at b n)) b ≡ xs
-          → drop n b ≡ name_bytes (pick c none (some (take (u8_at b n) (drop (n + 1) b)))) ++ xs
+          → drop n b ≡ name_bytes (pick c None (Some (take (u8_at b n) (drop (n + 1) b)))) ++ xs
       go true e l h = byte n (n + 1) xs refl l h ∙ ap (λ (k : ℕ). k ∷ xs) (eqb-true (u8_at b n) 255 e)
       go false e l h =
           let k = u8_at b n in

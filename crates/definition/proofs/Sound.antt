@@ -6,7 +6,7 @@ use mathlib.Core.Path.{◌≡◌, refl, sym, ap, ◌∙◌, subst}
 use mathlib.Core.Logic.{◌⊎◌, inl, inr}
 use mathlib.Core.List.Memᴰ
 use mathlib.Core.List.{List, [], ◌∷◌, ◌++◌, Memᴰ}
-use mathlib.Core.Option.{Option, some, none}
+use Rattle.std.specs.Prelude.{Option, Some, None}
 use mathlib.Core.Bool.{Bool, true, false, not}
 use native.Mathlib.Omega.{arith}
 use lib.Dec.{T, leb}
@@ -67,7 +67,7 @@ pub record Routine (cs : List (Composite × ℕ)) (d : Instruction) : Type 0 whe
   pub spells : d ≡ routine_of c id
   pub entered : Memᴰ (c, id) cs
 
-pub routine_result : (c : Composite) (id : ℕ) → (routine_of c id).result ≡ some id
+pub routine_result : (c : Composite) (id : ℕ) → (routine_of c id).result ≡ Some id
 routine_result (composite k xs) id = refl
 routine_result (function xs) id = refl
 routine_result void id = refl
@@ -115,7 +115,7 @@ not_shape l void id t e = subst (λ (o : ℕ). T (not_routine o)) (sym e) (shape
 -- a name or a decoration
 pub record Note (last : ℕ) (d : Instruction) : Type 0 where
   pub formed : Formed d
-  pub silent : d.result ≡ none
+  pub silent : d.result ≡ None
   pub marking : T (marks d.opcode)
   pub fits : Sized last d
 
@@ -147,7 +147,7 @@ notes_snoc start last xs d note here n = record {
 pub record Declaration (last : ℕ) (d : Instruction) : Type 0 where
   pub formed : Formed d
   pub id : ℕ
-  pub result : d.result ≡ some id
+  pub result : d.result ≡ Some id
   pub fits : Sized last d
 
 declaration_up : (last : ℕ) (d : Instruction) → Declaration last d → Declaration (suc last) d
@@ -158,8 +158,8 @@ abbrev pub Declared : {A : Type 0} → List (A × ℕ) → List Instruction → 
 Declared {A} xs ds = (a : A) (i : ℕ) → Memᴰ (a, i) xs → 1 ≤ times i ds
 
 abbrev pub SmallOption : Option Kind → Type 0
-SmallOption none = Unit
-SmallOption (some k) = SmallKind k
+SmallOption None = Unit
+SmallOption (Some k) = SmallKind k
 
 pub record Held (c : Constants) (ds : List Instruction) : Type 0 where
   pub literals : Declared c.literals ds
@@ -194,8 +194,8 @@ pub record Sound (start : ℕ) (P : List (ℕ × ℕ)) (s : State) : Type 0 wher
   pub formed : (d : Instruction) → Memᴰ d s.declarations → Declaration s.last d
 
 pub fits_more : (types : List (Key × ℕ)) (e : Key × ℕ) (o : Option Key) (x : ℕ) → FitsIn types o x → FitsIn (types ++ e ∷ []) o x
-fits_more types e none x f = f
-fits_more types e (some k) x f = Memᴰ.append_left (e ∷ []) f
+fits_more types e None x f = f
+fits_more types e (Some k) x f = Memᴰ.append_left (e ∷ []) f
 
 settled_more : (types : List (Key × ℕ)) (e : Key × ℕ) (ds : List Instruction) (l : Shape) (i : ℕ) → Settled types ds l i → Settled (types ++ e ∷ []) ds l i
 settled_more types e ds l i h = record { x = h.x; y = h.y; length = h.length; fits = fits_more types e (inner l) h.x h.fits; declared = h.declared }
@@ -363,7 +363,7 @@ module _ (start : ℕ) where
       settled a i (inr p) = inr (settled_more s.types e s.declarations a i p)
 
   -- an instruction declares the id that was taken last of those pending
-  pub declare_sound : (r id : ℕ) (P : List (ℕ × ℕ)) (s : State) (cs : List ℕ) (d : Instruction) → d.result ≡ some id → Formed d → Sized s.last d → needs d ≡ cs
+  pub declare_sound : (r id : ℕ) (P : List (ℕ × ℕ)) (s : State) (cs : List ℕ) (d : Instruction) → d.result ≡ Some id → Formed d → Sized s.last d → needs d ≡ cs
       → ((u : ℕ) → Memᴰ u (uses d) → 1 ≤ times u s.declarations)
       → ((j : Instruction) → Memᴰ j s.declarations → EqualTypes j d → ⊥)
       → (T (plain_type d.opcode) → Spelt s.types d ⊎ Routine s.constants.composites d)
@@ -409,7 +409,7 @@ module _ (start : ℕ) where
   not_declared r id P s h low = omega (arith, h.ids id, same_itself id, up_to_in s.last id low)
 
   -- an instruction that is no plain type, under an id that no shape has
-  pub other_sound : (id : ℕ) (P : List (ℕ × ℕ)) (s : State) (d : Instruction) → d.result ≡ some id → Formed d → Sized s.last d → (T (plain_type d.opcode) → ⊥) → needs d ≡ []
+  pub other_sound : (id : ℕ) (P : List (ℕ × ℕ)) (s : State) (d : Instruction) → d.result ≡ Some id → Formed d → Sized s.last d → (T (plain_type d.opcode) → ⊥) → needs d ≡ []
       → ((u : ℕ) → Memᴰ u (uses d) → 1 ≤ times u s.declarations)
       → Sound start ((9, id) ∷ P) s → Sound start P (declare_alone d s)
   other_sound id P s d e fd fits other free used h =
@@ -443,7 +443,7 @@ module _ (start : ℕ) where
   pub routine_sound : (c : Composite) (P : List (ℕ × ℕ)) (s : State) → T (is_routine c) → ((i : ℕ) → Memᴰ (c, i) s.constants.composites → ⊥)
       → Formed (routine_of c (suc s.last)) → Sized (suc s.last) (routine_of c (suc s.last))
       → ((u : ℕ) → Memᴰ u (uses (routine_of c (suc s.last))) → 1 ≤ times u s.declarations) → Sound start P s
-      → Sound start P (or_new_type none c (routine_of c) s).state
+      → Sound start P (or_new_type None c (routine_of c) s).state
   routine_sound c P s is new fd fits used h = record {
     ids = λ i. omega (arith, h.ids i, up_to_suc s.last i, times_snoc i s.declarations d, ap (λ (o : Option ℕ). once o i) e);
     above = above_snoc [] s.declarations d h.above (λ t. used);
@@ -471,7 +471,7 @@ module _ (start : ℕ) where
       d : Instruction
       d = routine_of c (suc s.last)
 
-      e : (routine_of c (suc s.last)).result ≡ some (suc s.last)
+      e : (routine_of c (suc s.last)).result ≡ Some (suc s.last)
       e = routine_result c (suc s.last)
 
       alone : (j : Instruction) → EqualTypes j (routine_of c (suc s.last)) → Spelt s.types j ⊎ Routine s.constants.composites j → ⊥

@@ -6,7 +6,7 @@ use mathlib.Core.Path.{◌≡◌, refl, ap, ◌∙◌}
 use mathlib.Core.Logic.{◌⊎◌, inl, inr}
 use mathlib.Core.List.Memᴰ
 use mathlib.Core.List.{List, [], ◌∷◌, ◌++◌, Memᴰ}
-use mathlib.Core.Option.{Option, some, none}
+use Rattle.std.specs.Prelude.{Option, Some, None}
 use mathlib.Core.Bool.{Bool, false}
 use native.Mathlib.Omega.{arith}
 use native.Mathlib.Decide.{ℕ_discrete}
@@ -56,8 +56,8 @@ one_noted : (id i d : ℕ) (ws : List ℕ) (s : State) → Noted id i s (annotat
 one_noted id i d ws s o ks e = omega (arith, carried_snoc o ks s.annotations (member_decorate id i d ws), e d ws)
 
 stride_noted : (n : Option ℕ) (id i : ℕ) (s : State) → Noted id i s (stride_member n id i s)
-stride_noted none id i s o ks e = refl
-stride_noted (some n) id i s o ks e = one_noted id i DecorationMatrixStride (n ∷ []) (annotate (member_decorate id i DecorationColMajor []) s) o ks e ∙ one_noted id i DecorationColMajor [] s o ks e
+stride_noted None id i s o ks e = refl
+stride_noted (Some n) id i s o ks e = one_noted id i DecorationMatrixStride (n ∷ []) (annotate (member_decorate id i DecorationColMajor []) s) o ks e ∙ one_noted id i DecorationColMajor [] s o ks e
 
 member_noted : (debug : Bool) (ts : List TypeEntry) (id i : ℕ) (m : Member) (s : State) → Noted id i s (decorate_member debug ts id i m s)
 member_noted debug ts id i m s o ks e =
@@ -72,8 +72,8 @@ unfolding find find_at
 entry_notes h s = go (lookup same_key (entry h) s.types)
   where
     go : (o : Option ℕ) → (or_new_key o (λ k s. got 0 s) (entry h) s).state.annotations ≡ s.annotations
-    go none = refl
-    go (some i) = refl
+    go None = refl
+    go (Some i) = refl
 
 -- no member from i on is decorated yet
 abbrev Open : ℕ → ℕ → State → Type 0
@@ -100,8 +100,8 @@ abbrev pub HasShapeId : ℕ → Shape → List (Key × ℕ) → Type 0
 HasShapeId n l types = (i : ℕ) × Memᴰ (entry n, i) types × Memᴰ (shape l, i) types
 
 abbrev pub Told : ℕ → Option Shape → List (Key × ℕ) → Type 0
-Told n none types = Unit
-Told n (some l) types = HasShapeId n l types
+Told n None types = Unit
+Told n (Some l) types = HasShapeId n l types
 
 pub record Done (start n : ℕ) (t : TypeEntry) (s u : State) : Type 0 where
   pub sound : Sound start [] u
@@ -113,16 +113,16 @@ pub record Done (start n : ℕ) (t : TypeEntry) (s u : State) : Type 0 where
   pub routines : (c : Composite) (i : ℕ) → T (is_routine c) → Memᴰ (c, i) u.constants.composites → Memᴰ (c, i) s.constants.composites
 
 pub told_more : (n : ℕ) (o : Option Shape) (xs ys : List (Key × ℕ)) → ((k : Key) (i : ℕ) → Memᴰ (k, i) xs → Memᴰ (k, i) ys) → Told n o xs → Told n o ys
-told_more n none xs ys f t = tt
-told_more n (some l) xs ys f t = (t.0, f (entry n) t.0 t.1, f (shape l) t.0 t.2)
+told_more n None xs ys f t = tt
+told_more n (Some l) xs ys f t = (t.0, f (entry n) t.0 t.1, f (shape l) t.0 t.2)
 
 module _ (start : ℕ) where
   -- ---- members
 
   pub stride_kept : (o : Option ℕ) (id i : ℕ) (P : List (ℕ × ℕ)) (s : State) → SmallStride o → i ≤ W → Taken id P s → ((d : ℕ) → eqb d DecorationOffset ≡ false → times_member_decorated id i d s.annotations ≡ 0) → Sound start P s
       → Kept start P s (stride_member o id i s)
-  stride_kept none id i P s small iw t new h = record { sound = h; grew = grew_refl s }
-  stride_kept (some n) id i P s small iw t new h =
+  stride_kept None id i P s small iw t new h = record { sound = h; grew = grew_refl s }
+  stride_kept (Some n) id i P s small iw t new h =
       let a = annotate (member_decorate id i DecorationColMajor []) s in
       let g = member_sound start id P i DecorationColMajor [] s iw (lit≤ tt) tt (lit≤ tt) t (new DecorationColMajor refl) h in
       let f = carried_other OpMemberDecorate (id ∷ i ∷ []) DecorationMatrixStride DecorationColMajor [] [] s.annotations refl in
@@ -214,7 +214,7 @@ module _ (start : ℕ) where
         declared = just_declared id d a refl;
       }
 
-  aggregate_sound : (debug : Bool) (ts : List TypeEntry) (i : TypeInner) (id : ℕ) (s : State) → shape_of i ≡ none → GoodTypes ts → GoodInner i → ((b : ℕ) → Memᴰ b (inner_types i) → Entered s.types b)
+  aggregate_sound : (debug : Bool) (ts : List TypeEntry) (i : TypeInner) (id : ℕ) (s : State) → shape_of i ≡ None → GoodTypes ts → GoodInner i → ((b : ℕ) → Memᴰ b (inner_types i) → Entered s.types b)
       → id ≤ s.last → Bare id s → Sound start ((9, id) ∷ []) s → Aggregated start id s (declare_aggregate debug ts i id s)
   aggregate_sound debug ts (Scalar k w) id s e gs g known lid bare h = let z : ◌≡◌ {A = ℕ} 0 1 = cc in absurd (omega arith)
   aggregate_sound debug ts (Vector n k w) id s e gs g known lid bare h = let z : ◌≡◌ {A = ℕ} 0 1 = cc in absurd (omega arith)
@@ -286,13 +286,13 @@ module _ (start : ℕ) where
 
       go : (o : Option Shape) → shape_of t.inner ≡ o
           → Done start (length ts) t s (label_if debug (name (declare_inner debug ts o t.inner s).id) t.name (enter (entry (length ts)) (declare_inner debug ts o t.inner s).id (declare_inner debug ts o t.inner s).state))
-      go (some l) e =
+      go (Some l) e =
           let f = find (shape l) s in
           let z = shape_facts t.inner l g e in
           let r = find_found start (shape l) s [] tt (record { entered = λ b m. k.all b (refs b (z.references b m)); small = z.small }) h in
           finish debug (length ts) f.id t s f.state gn k r.grew r.declared
           (rw e (f.id, last_in f.state.types (entry (length ts), f.id), Memᴰ.append_left ((entry (length ts), f.id) ∷ []) r.has)) r.sound
-      go none e =
+      go None e =
           let id = suc s.last in
           let u = declare_aggregate debug ts t.inner id (take_id s) in
           let q = aggregate_sound debug ts t.inner id (take_id s) e gs g (λ b m. k.all b (refs b m)) (omega arith) (fresh_bare start [] s h) (take_sound start 9 [] s h) in

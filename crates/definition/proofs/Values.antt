@@ -7,7 +7,7 @@ use mathlib.Core.Path.{◌≡◌, refl, ap, ◌∙◌, subst}
 use mathlib.Core.Logic.{◌⊎◌, inl, inr, ⊎_elim}
 use mathlib.Core.List.Memᴰ
 use mathlib.Core.List.{List, [], ◌∷◌, ◌++◌, Memᴰ}
-use mathlib.Core.Option.{Option, some, none}
+use Rattle.std.specs.Prelude.{Option, Some, None}
 use mathlib.Core.Bool.{Bool, true, false, ◌&&◌}
 use native.Mathlib.Omega.{arith}
 use native.Mathlib.Decide.{ℕ_discrete}
@@ -86,13 +86,13 @@ small_scalar RayQuery g = tt
 small_scalar (BindingArray b n) g = tt
 
 small_or_bool : (o : Option Kind) → SmallOption o → SmallKind (or_else bool o)
-small_or_bool none h = tt
-small_or_bool (some k) h = h
+small_or_bool None h = tt
+small_or_bool (Some k) h = h
 
 -- the base of a BindingArray is a type that it names
 abbrev BaseIn : TypeInner → Option ℕ → Type 0
-BaseIn i none = Unit
-BaseIn i (some b) = Memᴰ b (inner_types i)
+BaseIn i None = Unit
+BaseIn i (Some b) = Memᴰ b (inner_types i)
 
 base_in_lem : (i : TypeInner) → BaseIn i (binding_base i)
 base_in_lem (Scalar k w) = tt
@@ -110,13 +110,13 @@ base_in_lem RayQuery = tt
 base_in_lem (BindingArray b n) = Memᴰ.head refl
 
 abbrev SmallSize : Option ℕ → Type 0
-SmallSize none = Unit
-SmallSize (some n) = n ≤ W
+SmallSize None = Unit
+SmallSize (Some n) = n ≤ W
 
 remap_small : (ms : List Remap) (g b : ℕ) → GoodRemaps ms → SmallSize (remap_of ms g b)
 unfolding remap_of
 remap_small [] g b h = tt
-remap_small (m ∷ ms) g b h = pick_for SmallSize (eqb m.group g && eqb m.binding b) (some m.size) (remap_of ms g b) h.0 (remap_small ms g b h.1)
+remap_small (m ∷ ms) g b h = pick_for SmallSize (eqb m.group g && eqb m.binding b) (Some m.size) (remap_of ms g b) h.0 (remap_small ms g b h.1)
 
 -- a constant's id and kind
 pub record GotGood (start : ℕ) (s : State) (g : GotValue) : Type 0 where
@@ -182,8 +182,8 @@ pub record GotShared (start : ℕ) (P : List (ℕ × ℕ)) (s : State) (c : Comp
 
 -- an id is that of a record's return type, and ids are those of its parameters
 abbrev pub ResultIs : Option ℕ → State → ℕ → Type 0
-ResultIs none s x = Memᴰ (void, x) s.constants.composites
-ResultIs (some t) s x = Memᴰ (entry t, x) s.types
+ResultIs None s x = Memᴰ (void, x) s.constants.composites
+ResultIs (Some t) s x = Memᴰ (entry t, x) s.types
 
 abbrev pub AreIds : List ℕ → State → List ℕ → Type 0
 AreIds [] s [] = Unit
@@ -197,7 +197,7 @@ pub record GotResult (start : ℕ) (o : Option ℕ) (s : State) (g : Got) : Type
   pub aside : Aside s g.state
   pub declared : 1 ≤ times g.id g.state.declarations
   pub is : ResultIs o g.state g.id
-  pub voids : VoidsFor (o ≡ none) s g.state
+  pub voids : VoidsFor (o ≡ None) s g.state
 
 -- the function type of a record is entered
 pub record Signed (f : Function) (s : State) : Type 0 where
@@ -214,8 +214,8 @@ pub record Stays (s t : State) : Type 0 where
   pub shared : (c : Composite) (i : ℕ) → Memᴰ (c, i) s.constants.composites → Memᴰ (c, i) t.constants.composites
 
 result_stays : {s t : State} → Stays s t → (o : Option ℕ) (x : ℕ) → ResultIs o s x → ResultIs o t x
-result_stays g none x m = g.shared void x m
-result_stays g (some h) x m = g.more (entry h) x m
+result_stays g None x m = g.shared void x m
+result_stays g (Some h) x m = g.more (entry h) x m
 
 ids_stay : {s t : State} → Stays s t → (ts xs : List ℕ) → AreIds ts s xs → AreIds ts t xs
 ids_stay g [] [] a = tt
@@ -248,7 +248,7 @@ pub record FunctionKept (start : ℕ) (f : Function) (s t : State) : Type 0 wher
   pub sound : Sound start [] t
   pub aside : Aside s t
   pub signed : Signed f t
-  pub voids : VoidsFor (f.result ≡ none) s t
+  pub voids : VoidsFor (f.result ≡ None) s t
 
 module _ (start : ℕ) where
   finds : Finds start 9 find
@@ -281,8 +281,8 @@ module _ (start : ℕ) where
   null_found t s P old h = go (lookup ℕ_discrete t s.constants.nulls) refl
     where
       go : (a : Option ℕ) → lookup ℕ_discrete t s.constants.nulls ≡ a → GotId start P s (or_new_null a t s)
-      go (some i) e = record { sound = h; grew = grew_refl s; declared = h.constants.nulls t i (lookup_in ℕ_discrete t s.constants.nulls i e) }
-      go none e =
+      go (Some i) e = record { sound = h; grew = grew_refl s; declared = h.constants.nulls t i (lookup_in ℕ_discrete t s.constants.nulls i e) }
+      go None e =
           let id = suc s.last in
           let d = constant_null t id in
           let u = declare_alone d (take_id s) in
@@ -358,8 +358,8 @@ module _ (start : ℕ) where
   shared_got c P s is fd fits used h = go (lookup same_composite c s.constants.composites) refl
     where
       go : (o : Option ℕ) → lookup same_composite c s.constants.composites ≡ o → GotShared start P s c (or_new_type o c (routine_of c) s)
-      go (some i) e = let m = lookup_in same_composite c s.constants.composites i e in record { sound = h; aside = aside_refl s; has = m; declared = h.constants.composites c i m; voids = λ j n. inl n }
-      go none e =
+      go (Some i) e = let m = lookup_in same_composite c s.constants.composites i e in record { sound = h; aside = aside_refl s; has = m; declared = h.constants.composites c i m; voids = λ j n. inl n }
+      go None e =
           let id = suc s.last in
           let hv = routine_sound start c P s is (lookup_out same_composite c s.constants.composites e) fd fits used h in
           let has = last_in s.constants.composites (c, id) in
@@ -375,8 +375,8 @@ module _ (start : ℕ) where
   entry_id_lem t s e = go (lookup same_key (entry t) s.types) refl
     where
       go : (a : Option ℕ) → lookup same_key (entry t) s.types ≡ a → Memᴰ (entry t, or_else 0 a) s.types
-      go none f = absurd (lookup_out same_key (entry t) s.types f e.0 e.1)
-      go (some i) f = lookup_in same_key (entry t) s.types i f
+      go None f = absurd (lookup_out same_key (entry t) s.types f e.0 e.1)
+      go (Some i) f = lookup_in same_key (entry t) s.types i f
 
   entry_ids_lem : (ts : List ℕ) (s : State) → ((t : ℕ) → Memᴰ t ts → Entered s.types t) → AreIds ts s (entry_ids s ts) × (length (entry_ids s ts) ≡ length ts)
   unfolding entry_ids
@@ -391,10 +391,10 @@ module _ (start : ℕ) where
 
   result_got : (o : Option ℕ) (s : State) → ((t : ℕ) → Memᴰ t (init_list o) → Entered s.types t) → Sound start [] s → GotResult start o s (result_of o s)
   unfolding uses
-  result_got none s k h =
+  result_got None s k h =
       let r = shared_got void [] s tt (taken tt) (record { words = λ B p q. (omega arith, tt); short = lit< tt }) (λ u m. absurd (Memᴰ.not-nil m)) h in
       record { sound = r.sound; aside = r.aside; declared = r.declared; is = r.has; voids = λ i m. inr refl }
-  result_got (some t) s k h =
+  result_got (Some t) s k h =
       let m = entry_id_lem t s (k t (Memᴰ.head refl)) in
       record { sound = h; aside = aside_refl s; declared = h.handles t (entry_id s t) m; is = m; voids = λ i n. inl n }
 
@@ -429,8 +429,8 @@ module _ (start : ℕ) where
   -- ---- globals
 
   access_kept : (o : Option ℕ) (id : ℕ) (P : List (ℕ × ℕ)) (s : State) → Taken id P s → ((d : ℕ) → times_decorated id d s.annotations ≡ 0) → Sound start P s → Kept start P s (decorate_access o id s)
-  access_kept none id P s t new h = record { sound = h; grew = grew_refl s }
-  access_kept (some a) id P s t new h =
+  access_kept None id P s t new h = record { sound = h; grew = grew_refl s }
+  access_kept (Some a) id P s t new h =
       let d = decorate id DecorationNonReadable [] in
       let b = annotate_if (eqb (a % 2) 0) d s in
       let w = annotate_if_grew (eqb (a % 2) 0) d s in
@@ -441,8 +441,8 @@ module _ (start : ℕ) where
       }
 
   access_other : (o : Option ℕ) (id d : ℕ) (s : State) → eqb d DecorationNonReadable ≡ false → eqb d DecorationNonWritable ≡ false → times_decorated id d (decorate_access o id s).annotations ≡ times_decorated id d s.annotations
-  access_other none id d s e f = refl
-  access_other (some a) id d s e f =
+  access_other None id d s e f = refl
+  access_other (Some a) id d s e f =
       decorate_if_other (eqb (a / 2 % 2) 0) id d DecorationNonWritable (annotate_if (eqb (a % 2) 0) (decorate id DecorationNonReadable []) s) f ∙ decorate_if_other (eqb (a % 2) 0) id d DecorationNonReadable s e
 
   binding_kept : (b : Bool) (g : Global) (id : ℕ) (P : List (ℕ × ℕ)) (s : State) → GoodGlobal g → Taken id P s → times_decorated id DecorationDescriptorSet s.annotations ≡ 0 → times_decorated id DecorationBinding s.annotations ≡ 0 → Sound start P s
@@ -462,7 +462,7 @@ module _ (start : ℕ) where
   unfolding uses needs
   wrap_found ts t class s P gs cw o e h =
       let w = suc s.last in
-      let m : Member = record { type = t; offset = 0; name = none } in
+      let m : Member = record { type = t; offset = 0; name = None } in
       let a = annotate (block w) (take_id s) in
       let Q : List (ℕ × ℕ) = (9, w) ∷ P in
       let bare = fresh_bare start P s h in
@@ -494,9 +494,9 @@ module _ (start : ℕ) where
   GoodForm types (remapped b n) = Entered types b × (n ≤ W)
 
   form_good : (ts : List TypeEntry) (s : State) → Referring ts → Known (length ts) s → (t : ℕ) (o : Option ℕ) (n : Option ℕ) → BaseIn (inner_at ts t) o → SmallSize n → GoodForm s.types (remapped_form o n)
-  form_good ts s rf k t none n b m = tt
-  form_good ts s rf k t (some b) none i m = tt
-  form_good ts s rf k t (some b) (some n) i m = (k.all b (rf t b i), m)
+  form_good ts s rf k t None n b m = tt
+  form_good ts s rf k t (Some b) None i m = tt
+  form_good ts s rf k t (Some b) (Some n) i m = (k.all b (rf t b i), m)
 
   pointer_found : (w : PointerForm) (ts : List TypeEntry) (g : Global) (s : State) (P : List (ℕ × ℕ)) → GoodTypes ts → GoodForm s.types w → Over 0 P → Over 1 P → Over 2 P → Entered s.types g.type → Sound start P s
       → GotId start P s (pointer_of w ts g s)
@@ -509,13 +509,13 @@ module _ (start : ℕ) where
       record { sound = r.sound; grew = r.grew; declared = r.declared }
 
   abbrev BaseEntered : List (Key × ℕ) → Option ℕ → Type 0
-  BaseEntered types none = Unit
-  BaseEntered types (some b) = Entered types b
+  BaseEntered types None = Unit
+  BaseEntered types (Some b) = Entered types b
 
   block_kept : (b : Bool) (o : Option ℕ) (s : State) (P : List (ℕ × ℕ)) → Over 0 P → BaseEntered s.types o → Sound start P s → Kept start P s (block_base b o s)
   block_kept false o s P ov e h = record { sound = h; grew = grew_refl s }
-  block_kept true none s P ov e h = record { sound = h; grew = grew_refl s }
-  block_kept true (some t) s P ov e h =
+  block_kept true None s P ov e h = record { sound = h; grew = grew_refl s }
+  block_kept true (Some t) s P ov e h =
       let f = find (entry t) s in
       let r = find_found start (entry t) s P ov e h in
       record {
@@ -525,9 +525,9 @@ module _ (start : ℕ) where
 
   init_found : (i : Option ℕ) (b : Bool) (t : ℕ) (s : State) (P : List (ℕ × ℕ)) → Over 0 P → Entered s.types t → ((c : ℕ) → Memᴰ c (init_list i) → 1 ≤ times (value_at s c).id s.declarations) → Sound start P s
       → GotInitial start P s (init_for i b t s)
-  init_found (some c) b t s P o e v h = record { sound = h; grew = grew_refl s; declared = one_declared (value_at s c).id s (v c (Memᴰ.head refl)) }
-  init_found none false t s P o e v h = record { sound = h; grew = grew_refl s; declared = λ u m. absurd (Memᴰ.not-nil m) }
-  init_found none true t s P o e v h =
+  init_found (Some c) b t s P o e v h = record { sound = h; grew = grew_refl s; declared = one_declared (value_at s c).id s (v c (Memᴰ.head refl)) }
+  init_found None false t s P o e v h = record { sound = h; grew = grew_refl s; declared = λ u m. absurd (Memᴰ.not-nil m) }
+  init_found None true t s P o e v h =
       let f = find (entry t) s in
       let z = null_of f.id f.state in
       let q = zero_found t s P o e h in
@@ -536,11 +536,11 @@ module _ (start : ℕ) where
   -- the variable itself, after its pointer and its initializer
   variable_sound : (id p class : ℕ) (i : Option ℕ) (s : State) → class ≤ W → id ≤ s.last → 1 ≤ times p s.declarations → AllDeclared (optional i) s → Sound start ((9, id) ∷ []) s → Sound start [] (declare_alone (variable p id class i) s)
   unfolding uses needs
-  variable_sound id p class none s cw lid old v h =
-      other_sound start id [] s (variable p id class none) refl (taken tt)
+  variable_sound id p class None s cw lid old v h =
+      other_sound start id [] s (variable p id class None) refl (taken tt)
       (record { words = λ B x q. (omega (arith, low start ((9, id) ∷ []) s p h old), (omega arith, (omega arith, tt))); short = lit< tt }) (λ t. t) refl (one_declared p s old) h
-  variable_sound id p class (some i) s cw lid old v h =
-      other_sound start id [] s (variable p id class (some i)) refl (taken tt)
+  variable_sound id p class (Some i) s cw lid old v h =
+      other_sound start id [] s (variable p id class (Some i)) refl (taken tt)
       (record { words = λ B x q. (omega (arith, low start ((9, id) ∷ []) s p h old), (omega arith, (omega arith, (omega (arith, low start ((9, id) ∷ []) s i h (v i (Memᴰ.head refl))), tt)))); short = lit< tt }) (λ t. t) refl
       (more_declared p (i ∷ []) s old v) h
 
@@ -582,8 +582,8 @@ module _ (start : ℕ) where
       }
     where
       base_entered : (ts : List TypeEntry) (s : State) → Referring ts → Known (length ts) s → (t : ℕ) (o : Option ℕ) → BaseIn (inner_at ts t) o → BaseEntered s.types o
-      base_entered ts s rf k t none b = tt
-      base_entered ts s rf k t (some x) b = k.all x (rf t x b)
+      base_entered ts s rf k t None b = tt
+      base_entered ts s rf k t (Some x) b = k.all x (rf t x b)
 
       value_declared : (s : State) {P : List (ℕ × ℕ)} → Sound start P s → (c : ℕ) → c < length s.constants.values → 1 ≤ times (value_at s c).id s.declarations
       value_declared s h c l = (h.constants.values (value_at s c) (get_or_in s.constants.values c no_value l)).0

@@ -18,9 +18,9 @@ never_fit : {S : Type 0} (n : ℕ) (q : S) → refused n ≡ fit q → ⊥
 never_fit n q e = let z : ◌≡◌ {A = ℕ} 0 1 = cc in omega arith
 
 module _ {S : Type 0} (test : S → Record → ℕ) (step : S → Record → S) (P : S → Type 0) (Left : List ℕ → Type 0) where
-  past : (end none : Bool) (here : ℕ) (later : Judged S) (s q : S) → P s → (here ≡ 0 → later ≡ fit q → P q)
-      → pick end (fit s) (pick none (refused 4) (judge here later)) ≡ fit q → P q
-  past true none here later s q h k e = fit_is P s q h e
+  past : (end None : Bool) (here : ℕ) (later : Judged S) (s q : S) → P s → (here ≡ 0 → later ≡ fit q → P q)
+      → pick end (fit s) (pick None (refused 4) (judge here later)) ≡ fit q → P q
+  past true None here later s q h k e = fit_is P s q h e
   past false true here later s q h k e = absurd (never_fit 4 q e)
   past false false zero later s q h k e = k refl e
   past false false (suc here) later s q h k e = absurd (never_fit (suc here) q e)

@@ -3,7 +3,7 @@ use Prim.Native.Nat.{ℕ}
 use mathlib.Core.Path.{◌≡◌, refl}
 use mathlib.Core.Bool.{Bool, true, false, ◌&&◌}
 use mathlib.Core.List.{List}
-use mathlib.Core.Option.{Option, some, none}
+use Rattle.std.specs.Prelude.{Option, Some, None}
 use native.Mathlib.Omega.{arith}
 use lib.Dec.{eqb, leb}
 use lib.ListN.{length, drop, get_or}
@@ -17,13 +17,13 @@ use Rattle.definition.specs.WellDeclared.{IsBytes}
 use Rattle.definition.proofs.Demand.{demand_3}
 
 -- what is taken only where three tests hold shows the second
-second : (a b c : Bool) (x : Option Module) (m : Module) → pick (a && (b && c)) x none ≡ some m → b ≡ true
+second : (a b c : Bool) (x : Option Module) (m : Module) → pick (a && (b && c)) x None ≡ Some m → b ≡ true
 second a true c x m e = refl
 second true false c x m e = absurd (let z : ◌≡◌ {A = ℕ} 0 1 = cc in omega arith)
 second false false c x m e = absurd (let z : ◌≡◌ {A = ℕ} 0 1 = cc in omega arith)
 
 -- a module that can be read is made of words
-pub read_words : (ws : List ℕ) (m : Module) → read_module ws ≡ some m → every is_word ws ≡ true
+pub read_words : (ws : List ℕ) (m : Module) → read_module ws ≡ Some m → every is_word ws ≡ true
 unfolding read_module
 read_words ws m e =
     second (leb 5 (length ws)) (every is_word ws) (eqb (get_or ws 0 0) MagicNumber && eqb (get_or ws 4 0) 0)

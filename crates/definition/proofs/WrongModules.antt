@@ -5,7 +5,7 @@ use mathlib.Core.Path.{◌≡◌, refl, sym, ◌∙◌}
 use mathlib.Core.Bool.{true, false}
 use mathlib.Core.List.Memᴰ
 use mathlib.Core.List.{List, [], ◌∷◌}
-use mathlib.Core.Option.{Option, some, none}
+use Rattle.std.specs.Prelude.{Option, Some, None}
 use native.Mathlib.Decide.{ℕ_discrete}
 use native.Mathlib.Omega.{arith}
 use lib.Dec.{T, lit<}
@@ -99,7 +99,7 @@ two_offsets h = omega (arith, h.no_member_repeats 2 0 DecorationOffset)
 -- ---- entries, and the ids that a state has for them
 
 abbrev unnamed : TypeInner → TypeEntry
-unnamed t = record { source = record { tag = 0; body = [] }; name = none; inner = t }
+unnamed t = record { source = record { tag = 0; body = [] }; name = None; inner = t }
 
 abbrev sharing : List (Key × ℕ) → List (Composite × ℕ) → State
 sharing ks cs = record { last = 2; types = ks; constants = record { literals = []; composites = cs; nulls = []; values = [] }; capabilities = []; names = []; annotations = []; declarations = [] }
@@ -115,15 +115,15 @@ two_ids is h =
     omega arith
 
 -- entries whose shape the words do not declare; what the reader finds in their place is another shape
-module _ (t : TypeInner) (l m : Shape) (is : List Instruction) (shaped : shape_of t ≡ some l) (plain : T (plain_entry t)) (found : read_type is 1 ≡ some m) where
+module _ (t : TypeInner) (l m : Shape) (is : List Instruction) (shaped : shape_of t ≡ Some l) (plain : T (plain_entry t)) (found : read_type is 1 ≡ Some m) where
   other_shape : EntriesDeclared (unnamed t ∷ []) (entered ((entry 0, 1) ∷ [])) is → l ≡ m
   unfolding lookup same_key ℕ_discrete
   other_shape h =
       let q = h.declared 0 l (unnamed t, refl, plain, shaped) in
-      let e : some 1 ≡ some q.0 = q.1 in
+      let e : Some 1 ≡ Some q.0 = q.1 in
       let i : 1 ≡ q.0 = cc in
-      let f : read_type is 1 ≡ some l = rw (← i) at q.2 in
-      let g : some l ≡ some m = sym f ∙ found in
+      let f : read_type is 1 ≡ Some l = rw (← i) at q.2 in
+      let g : Some l ≡ Some m = sym f ∙ found in
       cc
 
 -- 64 bits in place of 32
@@ -156,26 +156,26 @@ abbrev returning : Option ℕ → List ℕ → Function
 returning t ps = record { result = t; parameters = ps }
 
 -- a record that takes a float is declared without its parameter
-no_parameter : FunctionsDeclared (returning (some 0) (0 ∷ []) ∷ []) (sharing ((entry 0, 1) ∷ []) ((function (1 ∷ 1 ∷ []), 2) ∷ [])) (type_float 1 32 ∷ type_function 2 (1 ∷ []) ∷ []) → ⊥
+no_parameter : FunctionsDeclared (returning (Some 0) (0 ∷ []) ∷ []) (sharing ((entry 0, 1) ∷ []) ((function (1 ∷ 1 ∷ []), 2) ∷ [])) (type_float 1 32 ∷ type_function 2 (1 ∷ []) ∷ []) → ⊥
 unfolding lookup same_key same_composite same_numbers ℕ_discrete entry_ids read_function declaration_of
 no_parameter h =
-    let q = h.declared (returning (some 0) (0 ∷ [])) (Memᴰ.head refl) in
-    let e : some 2 ≡ some q.0 = q.1 in
+    let q = h.declared (returning (Some 0) (0 ∷ [])) (Memᴰ.head refl) in
+    let e : Some 2 ≡ Some q.0 = q.1 in
     let i : 2 ≡ q.0 = cc in
-    let f : ◌≡◌ {A = Option (List ℕ)} (some (1 ∷ [])) (some (1 ∷ 1 ∷ [])) = rw (← i) at q.2 in
+    let f : ◌≡◌ {A = Option (List ℕ)} (Some (1 ∷ [])) (Some (1 ∷ 1 ∷ [])) = rw (← i) at q.2 in
     let z : ◌≡◌ {A = ℕ} 0 1 = cc in omega arith
 
 -- two records of other types have one id
-one_id_for_two : FunctionsDeclared (returning (some 0) [] ∷ returning (some 0) (0 ∷ []) ∷ []) (sharing ((entry 0, 1) ∷ []) ((function (1 ∷ []), 2) ∷ (function (1 ∷ 1 ∷ []), 2) ∷ [])) (type_float 1 32 ∷ type_function 2 (1 ∷ []) ∷ []) → ⊥
+one_id_for_two : FunctionsDeclared (returning (Some 0) [] ∷ returning (Some 0) (0 ∷ []) ∷ []) (sharing ((entry 0, 1) ∷ []) ((function (1 ∷ []), 2) ∷ (function (1 ∷ 1 ∷ []), 2) ∷ [])) (type_float 1 32 ∷ type_function 2 (1 ∷ []) ∷ []) → ⊥
 unfolding lookup same_key same_composite same_numbers ℕ_discrete entry_ids
 one_id_for_two h =
-    let e : ◌≡◌ {A = List ℕ} (1 ∷ []) (1 ∷ 1 ∷ []) = (h.shared (returning (some 0) []) (returning (some 0) (0 ∷ [])) 2 2 (Memᴰ.head refl) (Memᴰ.tail (Memᴰ.head refl)) refl refl).0 refl in
+    let e : ◌≡◌ {A = List ℕ} (1 ∷ []) (1 ∷ 1 ∷ []) = (h.shared (returning (Some 0) []) (returning (Some 0) (0 ∷ [])) 2 2 (Memᴰ.head refl) (Memᴰ.tail (Memᴰ.head refl)) refl refl).0 refl in
     let z : ◌≡◌ {A = ℕ} 0 1 = cc in omega arith
 
 -- what a record returns for void is a float
-float_for_void : FunctionsDeclared (returning none [] ∷ []) (sharing [] ((void, 1) ∷ (function (1 ∷ []), 2) ∷ [])) (type_float 1 32 ∷ type_function 2 (1 ∷ []) ∷ []) → ⊥
+float_for_void : FunctionsDeclared (returning None [] ∷ []) (sharing [] ((void, 1) ∷ (function (1 ∷ []), 2) ∷ [])) (type_float 1 32 ∷ type_function 2 (1 ∷ []) ∷ []) → ⊥
 unfolding lookup same_composite read_void declaration_of
-float_for_void h = let e : false ≡ true = h.returns_void (returning none []) (Memᴰ.head refl) refl in let z : ◌≡◌ {A = ℕ} 0 1 = cc in omega arith
+float_for_void h = let e : false ≡ true = h.returns_void (returning None []) (Memᴰ.head refl) refl in let z : ◌≡◌ {A = ℕ} 0 1 = cc in omega arith
 
 -- void is declared, and no record returns it
 void_needless : (s : State) → FunctionsDeclared [] s (type_void 1 ∷ []) → ⊥
@@ -193,11 +193,11 @@ unfolding occurrences needs needed listed_in listed_by
 format_unlisted h = omega (arith, h.capabilities CapabilityStorageImageExtendedFormats)
 
 -- a name without its closing zero has no reading; with it, it has one
-unclosed : read_module (0x07230203 ∷ 0x00010300 ∷ 28 ∷ 2 ∷ 0 ∷ 0x00030005 ∷ 1 ∷ 0x64636261 ∷ 0x00030016 ∷ 1 ∷ 32 ∷ []) ≡ none
+unclosed : read_module (0x07230203 ∷ 0x00010300 ∷ 28 ∷ 2 ∷ 0 ∷ 0x00030005 ∷ 1 ∷ 0x64636261 ∷ 0x00030016 ∷ 1 ∷ 32 ∷ []) ≡ None
 unfolding read_module read_all is_string
 unclosed = refl
 
 closed : read_module (0x07230203 ∷ 0x00010300 ∷ 28 ∷ 2 ∷ 0 ∷ 0x00040005 ∷ 1 ∷ 0x64636261 ∷ 0 ∷ 0x00030016 ∷ 1 ∷ 32 ∷ [])
-    ≡ some (record { version = 0x00010300; generator = 28; bound = 2; instructions = record { opcode = 5; type = none; result = none; operands = 1 ∷ 0x64636261 ∷ 0 ∷ [] } ∷ type_float 1 32 ∷ [] })
+    ≡ Some (record { version = 0x00010300; generator = 28; bound = 2; instructions = record { opcode = 5; type = None; result = None; operands = 1 ∷ 0x64636261 ∷ 0 ∷ [] } ∷ type_float 1 32 ∷ [] })
 unfolding read_module read_all is_string
 closed = refl

@@ -1,7 +1,7 @@
 -- Numbers and names in a list of bytes ("Big-endian."). Past the end a byte reads as 0, so that every field has a
 -- value; whether it is there at all is test 8.
 use Rattle.std.specs.Prelude.{ℕ, ◌+◌, ◌*◌, List, eqb, get_or, take, drop}
-use Rattle.std.proofs.Math.Option.{Option, some, none}
+use Rattle.std.specs.Prelude.{Option, Some, None}
 use Rattle.definition.specs.Choice.{pick}
 
 abbrev pub u8_at : List ℕ → ℕ → ℕ
@@ -21,7 +21,7 @@ abbrev pub Name : Type 0
 Name = Option (List ℕ)
 
 unfoldable pub name_at : List ℕ → ℕ → Name
-name_at b i = pick (eqb (u8_at b i) 255) none (some (take (u8_at b i) (drop (i + 1) b)))
+name_at b i = pick (eqb (u8_at b i) 255) None (Some (take (u8_at b i) (drop (i + 1) b)))
 
 -- where the name that starts at i ends
 unfoldable pub name_end : List ℕ → ℕ → ℕ

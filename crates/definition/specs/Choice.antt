@@ -1,6 +1,6 @@
 -- Choices and tests, as the other files of this folder write them.
 use Rattle.std.specs.Prelude.{ℕ, zero, suc, Bool, true, false, ◌&&◌, List, [], ◌∷◌, eqb, leb}
-use Rattle.std.proofs.Math.Option.{Option, some, none}
+use Rattle.std.specs.Prelude.{Option, Some, None}
 
 abbrev pub pick {ℓ} : {A : Type ℓ} → Bool → A → A → A
 pick true a b = a
@@ -31,5 +31,5 @@ every P (x ∷ xs) = P x && every P xs
 
 -- the value, or another where there is none
 abbrev pub or_else : {A : Type 0} → A → Option A → A
-or_else d none = d
-or_else d (some a) = a
+or_else d None = d
+or_else d (Some a) = a

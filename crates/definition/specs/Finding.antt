@@ -1,7 +1,7 @@
 -- "Finding a type's id may declare it, and declaring it may find another's." The fuel is the shape's nesting rank.
 use Rattle.std.proofs.Math.Decide.{ℕ_discrete}
 use Rattle.std.specs.Prelude.{ℕ, suc, zero, ◌&&◌, List, [], ◌∷◌, ◌++◌, eqb}
-use Rattle.std.proofs.Math.Option.{Option, some, none}
+use Rattle.std.specs.Prelude.{Option, Some, None}
 use Rattle.definition.specs.Choice.{pick, among}
 use Rattle.definition.specs.Numbers.{CapabilityFloat16, CapabilityFloat64, CapabilityInt64, CapabilityInt16, CapabilityInt8, CapabilitySampled1D, CapabilityImage1D, CapabilitySampledCubeArray, CapabilityImageCubeArray, CapabilityStorageImageExtendedFormats, CapabilityRayQueryKHR, Dim1D, DimCube}
 use Rattle.definition.specs.Numbers.{ImageFormatRg32f, ImageFormatRg16f, ImageFormatR11fG11fB10f, ImageFormatR16f, ImageFormatRgba16, ImageFormatRgb10A2, ImageFormatRg16, ImageFormatRg8, ImageFormatR16, ImageFormatR8, ImageFormatRgba16Snorm, ImageFormatRg16Snorm, ImageFormatRg8Snorm, ImageFormatR16Snorm, ImageFormatR8Snorm, ImageFormatRg32i, ImageFormatRg16i, ImageFormatRg8i, ImageFormatR16i, ImageFormatR8i, ImageFormatRgb10a2ui, ImageFormatRg32ui, ImageFormatRg16ui, ImageFormatRg8ui, ImageFormatR16ui, ImageFormatR8ui}
@@ -88,8 +88,8 @@ new_value find k write note s =
     got id (with_constants (note id t.constants) t)
 
 abbrev pub or_new_value : Option ℕ → (Key → State → Got) → Key → (ℕ → ℕ → Instruction) → (ℕ → Constants → Constants) → State → Got
-or_new_value (some id) find k write note s = got id s
-or_new_value none find k write note s = new_value find k write note s
+or_new_value (Some id) find k write note s = got id s
+or_new_value None find k write note s = new_value find k write note s
 
 -- "Literals .. are equal by form and bits"
 unfoldable pub literal_with : (Key → State → Got) → Literal → State → Got
@@ -98,13 +98,13 @@ literal_with find l s = or_new_value (lookup same_literal l s.constants.literals
 -- ---- types: "An id is taken before the parts of a type are found."
 
 abbrev pub inner_got : Option Key → (Key → State → Got) → State → Got
-inner_got none find s = got 0 s
-inner_got (some k) find s = find k s
+inner_got None find s = got 0 s
+inner_got (Some k) find s = find k s
 
 -- "array lengths are U32 literals"
 abbrev pub length_got : Option ℕ → (Key → State → Got) → State → Got
-length_got none find s = got 0 s
-length_got (some n) find s = literal_with find (u32 n) s
+length_got None find s = got 0 s
+length_got (Some n) find s = literal_with find (u32 n) s
 
 abbrev pub declare_shape : (Key → State → Got) → Shape → ℕ → State → Got
 declare_shape find l id s =
@@ -117,8 +117,8 @@ new_key find (entry h) s = got 0 s
 new_key find (shape l) s = declare_shape find l (suc s.last) (enter (shape l) (suc s.last) (take_id s))
 
 abbrev pub or_new_key : Option ℕ → (Key → State → Got) → Key → State → Got
-or_new_key (some id) find k s = got id s
-or_new_key none find k s = new_key find k s
+or_new_key (Some id) find k s = got id s
+or_new_key None find k s = new_key find k s
 
 -- the id of a key that nests n deep, declared if need be
 unfoldable pub find_at : ℕ → Key → State → Got
@@ -137,8 +137,8 @@ unfoldable pub composite_of : Key → List ℕ → State → Got
 composite_of k xs s = or_new_value (lookup same_composite (composite k xs) s.constants.composites) find k (λ t id. constant_composite t id xs) (enter_composite (composite k xs)) s
 
 abbrev pub or_new_null : Option ℕ → ℕ → State → Got
-or_new_null (some id) t s = got id s
-or_new_null none t s =
+or_new_null (Some id) t s = got id s
+or_new_null None t s =
     let id = suc s.last in
     let u = declare_alone (constant_null t id) (take_id s) in
     got id (with_constants (enter_null t id u.constants) u)

@@ -1,7 +1,7 @@
 -- Instructions as data, their words, and the module's words (the SPIR-V Specification, "Physical Layout of a SPIR-V
 -- Module and Instruction"). "Instructions, opcodes, operands and packed names are the SPIR-V Specification's."
 use Rattle.std.specs.Prelude.{ℕ, suc, ◌+◌, ◌*◌, Bool, List, [], ◌∷◌, ◌++◌, leb, length, drop}
-use Rattle.std.proofs.Math.Option.{Option, some, none}
+use Rattle.std.specs.Prelude.{Option, Some, None}
 use Rattle.definition.specs.Choice.{pick}
 use Rattle.definition.specs.Numbers.{MagicNumber, OpName, OpMemberName, OpCapability, OpTypeVoid, OpTypeBool, OpTypeInt, OpTypeFloat, OpTypeVector, OpTypeMatrix, OpTypeImage, OpTypeSampler, OpTypeArray, OpTypeRuntimeArray, OpTypeStruct, OpTypePointer, OpTypeFunction, OpConstantTrue, OpConstantFalse, OpConstant, OpConstantComposite, OpConstantNull, OpVariable, OpDecorate, OpMemberDecorate, OpTypeRayQueryKHR, OpTypeAccelerationStructureKHR}
 
@@ -14,8 +14,8 @@ pub record Instruction : Type 0 where
   pub operands : List ℕ
 
 abbrev pub optional : Option ℕ → List ℕ
-optional none = []
-optional (some x) = x ∷ []
+optional None = []
+optional (Some x) = x ∷ []
 
 -- what stands behind an instruction's first word
 abbrev pub body : Instruction → List ℕ
@@ -44,13 +44,13 @@ packed (a ∷ (b ∷ (c ∷ (d ∷ bs)))) = little_endian a b c d ∷ packed bs
 -- ---- the instructions that document 01's rules show
 
 abbrev pub plain : ℕ → List ℕ → Instruction
-plain o xs = record { opcode = o; type = none; result = none; operands = xs }
+plain o xs = record { opcode = o; type = None; result = None; operands = xs }
 
 abbrev pub type_op : ℕ → ℕ → List ℕ → Instruction
-type_op o id xs = record { opcode = o; type = none; result = some id; operands = xs }
+type_op o id xs = record { opcode = o; type = None; result = Some id; operands = xs }
 
 abbrev pub value_op : ℕ → ℕ → ℕ → List ℕ → Instruction
-value_op o type id xs = record { opcode = o; type = some type; result = some id; operands = xs }
+value_op o type id xs = record { opcode = o; type = Some type; result = Some id; operands = xs }
 
 abbrev pub capability : ℕ → Instruction
 capability c = plain OpCapability (c ∷ [])

@@ -2,7 +2,7 @@
 -- Which words behind an instruction's first one are its result type, its result id and its operands the Reader has from the
 -- Specification (`layout_of`, `split`); it knows the opcodes that Declare writes, and no others.
 use Rattle.std.specs.Prelude.{ℕ, suc, zero, ◌+◌, ◌*◌, ◌-◌, ◌/◌, ◌%◌, ◌≤◌, ◌<◌, Bool, true, false, ◌&&◌, List, [], ◌∷◌, ◌++◌, ◌⊎◌, ◌≡◌, eqb, leb, length, take, drop, get_or}
-use Rattle.std.proofs.Math.Option.{Option, some, none}
+use Rattle.std.specs.Prelude.{Option, Some, None}
 use Rattle.definition.specs.Choice.{pick, unless, within, or_else}
 use Rattle.definition.specs.Numbers.{MagicNumber}
 use Rattle.definition.specs.Instructions.{Instruction, optional, plain, type_op, value_op, words, version, header, put, fits}
@@ -68,8 +68,8 @@ list_one i = i.opcode ∷ or_else 0 i.result ∷ length (others i) ∷ others i
 
 -- of what the Reader makes of the words behind the first one; test 20 leaves no instruction that has too few of them
 abbrev pub list_split : Option Instruction → List ℕ
-list_split none = []
-list_split (some i) = list_one i
+list_split None = []
+list_split (Some i) = list_one i
 
 abbrev pub list_body : ℕ → List ℕ → List ℕ
 list_body o b = list_split (split o (layout_of o).typed (layout_of o).declares b)

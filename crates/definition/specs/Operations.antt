@@ -1,5 +1,5 @@
 -- The operations: Check, Declare and Wrapped, each a function of the sheet (and of the word buffer, or the index).
-use Rattle.std.proofs.Math.Option.{none}
+use Rattle.std.specs.Prelude.{None}
 use Rattle.std.specs.Prelude.{ℕ, Bool, List, leb, ltb, length, drop, get_or}
 use Rattle.definition.specs.Choice.{pick, first}
 use Rattle.definition.specs.Instructions.{put, fits}
@@ -88,7 +88,7 @@ pub data Wrapping : Type 0 where
   Refused : ℕ → Wrapping
 
 abbrev pub no_global : Global
-no_global = record { name = none; type = 0; space = 0; access = 0; bound = 0; group = 0; binding = 0; init = none }
+no_global = record { name = None; type = 0; space = 0; access = 0; bound = 0; group = 0; binding = 0; init = None }
 
 abbrev pub wrapping_of : ℕ → Judged Progress → Wrapping
 wrapping_of k (refused n) = Wrapping.Refused n

@@ -1,7 +1,7 @@
 -- Reading a module by the SPIR-V Specification alone: the words of the header, the word count and opcode of each instruction,
 -- and for each opcode what its operands are. It knows nothing of sheets or rules. What is malformed has no reading.
 use Rattle.std.specs.Prelude.{ℕ, suc, zero, ◌-◌, ◌/◌, ◌%◌, Bool, true, false, ◌&&◌, not, List, [], ◌∷◌, ◌++◌, eqb, leb, ltb, length, take, drop, get_or}
-use Rattle.std.proofs.Math.Option.{Option, some, none}
+use Rattle.std.specs.Prelude.{Option, Some, None}
 use Rattle.definition.specs.Choice.{pick, every}
 use Rattle.definition.specs.Numbers.{MagicNumber, OpName, OpMemberName, OpCapability, OpTypeVoid, OpTypeBool, OpTypeInt, OpTypeFloat, OpTypeVector, OpTypeMatrix, OpTypeImage, OpTypeSampler, OpTypeArray, OpTypeRuntimeArray, OpTypeStruct, OpTypePointer, OpTypeFunction, OpConstantTrue, OpConstantFalse, OpConstant, OpConstantComposite, OpConstantNull, OpVariable, OpDecorate, OpMemberDecorate, OpTypeRayQueryKHR, OpTypeAccelerationStructureKHR}
 use Rattle.definition.specs.Instructions.{Instruction, optional}
@@ -124,36 +124,36 @@ uses i = optional i.type ++ ids_among (layout_of i.opcode).operands i.operands
 
 -- result type and result stand first, where there are any
 abbrev pub split : ℕ → Bool → Bool → List ℕ → Option Instruction
-split o true true [] = none
-split o true true (t ∷ []) = none
-split o true true (t ∷ (r ∷ xs)) = some (record { opcode = o; type = some t; result = some r; operands = xs })
-split o true false [] = none
-split o true false (t ∷ xs) = some (record { opcode = o; type = some t; result = none; operands = xs })
-split o false true [] = none
-split o false true (r ∷ xs) = some (record { opcode = o; type = none; result = some r; operands = xs })
-split o false false xs = some (record { opcode = o; type = none; result = none; operands = xs })
+split o true true [] = None
+split o true true (t ∷ []) = None
+split o true true (t ∷ (r ∷ xs)) = Some (record { opcode = o; type = Some t; result = Some r; operands = xs })
+split o true false [] = None
+split o true false (t ∷ xs) = Some (record { opcode = o; type = Some t; result = None; operands = xs })
+split o false true [] = None
+split o false true (r ∷ xs) = Some (record { opcode = o; type = None; result = Some r; operands = xs })
+split o false false xs = Some (record { opcode = o; type = None; result = None; operands = xs })
 
 abbrev pub checked : Option Instruction → Option Instruction
-checked none = none
-checked (some i) = pick (formed (layout_of i.opcode).operands i.operands) (some i) none
+checked None = None
+checked (Some i) = pick (formed (layout_of i.opcode).operands i.operands) (Some i) None
 
 -- refused: a word count of 0, words that are missing, an opcode that is not known, operands that are not its own
 abbrev pub read_one : Bool → Bool → Bool → ℕ → List ℕ → Option Instruction
-read_one false b c o ws = none
-read_one true false c o ws = none
-read_one true true false o ws = none
+read_one false b c o ws = None
+read_one true false c o ws = None
+read_one true true false o ws = None
 read_one true true true o ws = checked (split o (layout_of o).typed (layout_of o).declares ws)
 
 abbrev pub joined : Option Instruction → Option (List Instruction) → Option (List Instruction)
-joined none r = none
-joined (some i) none = none
-joined (some i) (some is) = some (i ∷ is)
+joined None r = None
+joined (Some i) None = None
+joined (Some i) (Some is) = Some (i ∷ is)
 
 -- the high half of an instruction's first word is its word count, the low half its opcode
 unfoldable pub read_all : ℕ → List ℕ → Option (List Instruction)
-read_all zero [] = some []
-read_all zero (w ∷ ws) = none
-read_all (suc fuel) [] = some []
+read_all zero [] = Some []
+read_all zero (w ∷ ws) = None
+read_all (suc fuel) [] = Some []
 read_all (suc fuel) (w ∷ ws) =
     let n = w / 65536 - 1 in
     joined (read_one (leb 1 (w / 65536)) (leb n (length ws)) (layout_of (w % 65536)).known (w % 65536) (take n ws)) (read_all fuel (drop n ws))
@@ -168,8 +168,8 @@ pub record Module : Type 0 where
   pub instructions : List Instruction
 
 abbrev pub module_of : ℕ → ℕ → ℕ → Option (List Instruction) → Option Module
-module_of v g b none = none
-module_of v g b (some is) = some (record { version = v; generator = g; bound = b; instructions = is })
+module_of v g b None = None
+module_of v g b (Some is) = Some (record { version = v; generator = g; bound = b; instructions = is })
 
 -- words have 32 bits
 abbrev pub is_word : ℕ → Bool
@@ -180,4 +180,4 @@ unfoldable pub read_module : List ℕ → Option Module
 read_module ws =
     pick (leb 5 (length ws) && (every is_word ws && (eqb (get_or ws 0 0) MagicNumber && eqb (get_or ws 4 0) 0)))
     (module_of (get_or ws 1 0) (get_or ws 2 0) (get_or ws 3 0) (read_all (length ws) (drop 5 ws)))
-    none
+    None

@@ -1,6 +1,6 @@
 -- How the entries of a sheet change the state ("Rules"): types, function types, constants and globals, in the sheet's order.
 use Rattle.std.specs.Prelude.{ℕ, suc, zero, ◌*◌, ◌/◌, ◌%◌, Bool, true, false, ◌&&◌, ◌||◌, not, List, [], ◌∷◌, ◌++◌, eqb, length, get_or, replicate}
-use Rattle.std.proofs.Math.Option.{Option, some, none}
+use Rattle.std.specs.Prelude.{Option, Some, None}
 use Rattle.definition.specs.Choice.{pick, or_else, among}
 use Rattle.definition.specs.Bytes.{Name}
 use Rattle.definition.specs.Numbers.{OpDecorate, DecorationBlock, DecorationColMajor, DecorationArrayStride, DecorationMatrixStride, DecorationNonWritable, DecorationNonReadable, DecorationBinding, DecorationDescriptorSet, DecorationOffset}
@@ -18,7 +18,7 @@ use Rattle.definition.specs.Finding.{literal_kind, find, literal, composite_of, 
 -- ---- the types read so far
 
 abbrev pub no_entry : TypeEntry
-no_entry = record { source = record { tag = 0; body = [] }; name = none; inner = AccelerationStructure }
+no_entry = record { source = record { tag = 0; body = [] }; name = None; inner = AccelerationStructure }
 
 -- the fields of the type with an index
 abbrev pub inner_at : List TypeEntry → ℕ → TypeInner
@@ -37,19 +37,19 @@ has_stride rows width = size_fits rows && float_width width
 
 -- the column stride of a matrix; one that is not among the nine has none, and is in no sheet that Check fits
 abbrev pub matrix_stride : TypeInner → Option ℕ
-matrix_stride (Scalar k w) = none
-matrix_stride (Vector n k w) = none
-matrix_stride (Matrix c r w) = pick (has_stride r w) (some (column_stride r w)) none
-matrix_stride (Atomic k w) = none
-matrix_stride (Pointer b s a) = none
-matrix_stride (ValuePointer n k w s a) = none
-matrix_stride (Array b n d) = none
-matrix_stride (Struct n ms) = none
-matrix_stride (Image d a c x y) = none
-matrix_stride (Sampler c) = none
-matrix_stride AccelerationStructure = none
-matrix_stride RayQuery = none
-matrix_stride (BindingArray b n) = none
+matrix_stride (Scalar k w) = None
+matrix_stride (Vector n k w) = None
+matrix_stride (Matrix c r w) = pick (has_stride r w) (Some (column_stride r w)) None
+matrix_stride (Atomic k w) = None
+matrix_stride (Pointer b s a) = None
+matrix_stride (ValuePointer n k w s a) = None
+matrix_stride (Array b n d) = None
+matrix_stride (Struct n ms) = None
+matrix_stride (Image d a c x y) = None
+matrix_stride (Sampler c) = None
+matrix_stride AccelerationStructure = None
+matrix_stride RayQuery = None
+matrix_stride (BindingArray b n) = None
 
 -- the fields of what an array is made of, or of the type itself where it is no array
 abbrev pub element_of : List TypeEntry → TypeInner → TypeInner
@@ -87,15 +87,15 @@ is_dynamic (BindingArray b n) = false
 
 abbrev pub label_if : Bool → (List ℕ → Instruction) → Name → State → State
 label_if false write n s = s
-label_if true write none s = s
-label_if true write (some bs) s = label (write bs) s
+label_if true write None s = s
+label_if true write (Some bs) s = label (write bs) s
 
 -- ---- members
 
 -- "a matrix, or an array directly of matrices, also ColMajor and MatrixStride"
 abbrev pub stride_member : Option ℕ → ℕ → ℕ → State → State
-stride_member none id i s = s
-stride_member (some stride) id i s = annotate (member_decorate id i DecorationMatrixStride (stride ∷ [])) (annotate (member_decorate id i DecorationColMajor []) s)
+stride_member None id i s = s
+stride_member (Some stride) id i s = annotate (member_decorate id i DecorationMatrixStride (stride ∷ [])) (annotate (member_decorate id i DecorationColMajor []) s)
 
 -- "A struct member has Offset; .." and "a member [is named] after its Offset"
 abbrev pub decorate_member : Bool → List TypeEntry → ℕ → ℕ → Member → State → State
@@ -181,8 +181,8 @@ declare_aggregate debug ts (BindingArray b n) id s = declare_array n id (find (e
 -- its declaration".
 
 abbrev pub declare_inner : Bool → List TypeEntry → Option Shape → TypeInner → State → Got
-declare_inner debug ts (some l) i s = find (shape l) s
-declare_inner debug ts none i s = got (suc s.last) (declare_aggregate debug ts i (suc s.last) (take_id s))
+declare_inner debug ts (Some l) i s = find (shape l) s
+declare_inner debug ts None i s = got (suc s.last) (declare_aggregate debug ts i (suc s.last) (take_id s))
 
 unfoldable pub declare_type : Bool → List TypeEntry → TypeEntry → State → State
 declare_type debug ts t s =
@@ -193,8 +193,8 @@ declare_type debug ts t s =
 
 -- the id of a type that is shared by the ids that it names, which is declared if it has none yet
 abbrev pub or_new_type : Option ℕ → Composite → (ℕ → Instruction) → State → Got
-or_new_type (some id) c write s = got id s
-or_new_type none c write s =
+or_new_type (Some id) c write s = got id s
+or_new_type None c write s =
     let id = suc s.last in
     let u = declare_alone (write id) (take_id s) in
     got id (with_constants (enter_composite c id u.constants) u)
@@ -204,8 +204,8 @@ shared_type c write s = or_new_type (lookup same_composite c s.constants.composi
 
 -- "void is declared by the first record that returns it, its id taken before that record's"
 abbrev pub result_of : Option ℕ → State → Got
-result_of none s = shared_type void type_void s
-result_of (some t) s = got (entry_id s t) s
+result_of None s = shared_type void type_void s
+result_of (Some t) s = got (entry_id s t) s
 
 -- "Two records with equal return id and equal parameter ids share one id."
 unfoldable pub declare_function : Function → State → State
@@ -217,7 +217,7 @@ declare_function f s =
 -- ---- constants
 
 abbrev pub no_value : Valued
-no_value = record { id = 0; type = 0; kind = none }
+no_value = record { id = 0; type = 0; kind = None }
 
 abbrev pub value_at : State → ℕ → Valued
 value_at s c = get_or s.constants.values c no_value
@@ -228,19 +228,19 @@ ids_of s (c ∷ cs) = (value_at s c).id ∷ ids_of s cs
 
 -- the kind of a type of tag 16
 abbrev pub kind_of_scalar : TypeInner → Option Kind
-kind_of_scalar (Scalar k w) = some (kind_of k w)
-kind_of_scalar (Vector n k w) = none
-kind_of_scalar (Matrix c r w) = none
-kind_of_scalar (Atomic k w) = none
-kind_of_scalar (Pointer b s a) = none
-kind_of_scalar (ValuePointer n k w s a) = none
-kind_of_scalar (Array b n d) = none
-kind_of_scalar (Struct n ms) = none
-kind_of_scalar (Image d a c x y) = none
-kind_of_scalar (Sampler c) = none
-kind_of_scalar AccelerationStructure = none
-kind_of_scalar RayQuery = none
-kind_of_scalar (BindingArray b n) = none
+kind_of_scalar (Scalar k w) = Some (kind_of k w)
+kind_of_scalar (Vector n k w) = None
+kind_of_scalar (Matrix c r w) = None
+kind_of_scalar (Atomic k w) = None
+kind_of_scalar (Pointer b s a) = None
+kind_of_scalar (ValuePointer n k w s a) = None
+kind_of_scalar (Array b n d) = None
+kind_of_scalar (Struct n ms) = None
+kind_of_scalar (Image d a c x y) = None
+kind_of_scalar (Sampler c) = None
+kind_of_scalar AccelerationStructure = None
+kind_of_scalar RayQuery = None
+kind_of_scalar (BindingArray b n) = None
 
 -- a constant that was found or declared, of a type with a key
 pub record GotValue : Type 0 where
@@ -252,13 +252,13 @@ got_value k kind g = record { value = record { id = g.id; type = or_else 0 (id_o
 
 -- "An Alias is `Expression::Constant`; a Splat's type is given as a value, never a handle."
 unfoldable pub constant_of : List TypeEntry → Expression → State → GotValue
-constant_of ts (Value l) s = got_value (shape (scalar (literal_kind l))) (some (literal_kind l)) (literal l s)
+constant_of ts (Value l) s = got_value (shape (scalar (literal_kind l))) (Some (literal_kind l)) (literal l s)
 constant_of ts (Alias c) s = record { value = value_at s c; state = s }
 constant_of ts (ZeroValue t) s = got_value (entry t) (kind_of_scalar (inner_at ts t)) (let g = find (entry t) s in null_of g.id g.state)
-constant_of ts (Compose t cs) s = got_value (entry t) none (composite_of (entry t) (ids_of s cs) s)
+constant_of ts (Compose t cs) s = got_value (entry t) None (composite_of (entry t) (ids_of s cs) s)
 constant_of ts (Splat n c) s =
     let k = shape (vector n (or_else bool (value_at s c).kind)) in
-    got_value k none (composite_of k (replicate n (value_at s c).id) s)
+    got_value k None (composite_of k (replicate n (value_at s c).id) s)
 
 abbrev pub enter_value : Valued → State → State
 enter_value v s = with_constants (record { literals = s.constants.literals; composites = s.constants.composites; nulls = s.constants.nulls; values = s.constants.values ++ v ∷ [] }) s
@@ -270,27 +270,27 @@ declare_constant ts e s = let g = constant_of ts e s in enter_value g.value g.st
 
 -- "A global without load has NonReadable and without store NonWritable (access of Storage space, else of its storage image)"
 abbrev pub image_access : TypeInner → Option ℕ
-image_access (Scalar k w) = none
-image_access (Vector n k w) = none
-image_access (Matrix c r w) = none
-image_access (Atomic k w) = none
-image_access (Pointer b s a) = none
-image_access (ValuePointer n k w s a) = none
-image_access (Array b n d) = none
-image_access (Struct n ms) = none
-image_access (Image d a c x y) = pick (eqb c 2) (some y) none
-image_access (Sampler c) = none
-image_access AccelerationStructure = none
-image_access RayQuery = none
-image_access (BindingArray b n) = none
+image_access (Scalar k w) = None
+image_access (Vector n k w) = None
+image_access (Matrix c r w) = None
+image_access (Atomic k w) = None
+image_access (Pointer b s a) = None
+image_access (ValuePointer n k w s a) = None
+image_access (Array b n d) = None
+image_access (Struct n ms) = None
+image_access (Image d a c x y) = pick (eqb c 2) (Some y) None
+image_access (Sampler c) = None
+image_access AccelerationStructure = None
+image_access RayQuery = None
+image_access (BindingArray b n) = None
 
 abbrev pub access_of : List TypeEntry → Global → Option ℕ
-access_of ts g = pick (eqb g.space storage_space) (some g.access) (image_access (inner_at ts g.type))
+access_of ts g = pick (eqb g.space storage_space) (Some g.access) (image_access (inner_at ts g.type))
 
 -- bit 0 load, bit 1 store
 abbrev pub decorate_access : Option ℕ → ℕ → State → State
-decorate_access none id s = s
-decorate_access (some a) id s =
+decorate_access None id s = s
+decorate_access (Some a) id s =
     annotate_if (eqb (a / 2 % 2) 0) (decorate id DecorationNonWritable [])
     (annotate_if (eqb (a % 2) 0) (decorate id DecorationNonReadable []) s)
 
@@ -330,24 +330,24 @@ needs_wrapper ts g = among g.space (uniform_space ∷ storage_space ∷ push_con
 
 -- the base of a BindingArray
 abbrev pub binding_base : TypeInner → Option ℕ
-binding_base (Scalar k w) = none
-binding_base (Vector n k w) = none
-binding_base (Matrix c r w) = none
-binding_base (Atomic k w) = none
-binding_base (Pointer b s a) = none
-binding_base (ValuePointer n k w s a) = none
-binding_base (Array b n d) = none
-binding_base (Struct n ms) = none
-binding_base (Image d a c x y) = none
-binding_base (Sampler c) = none
-binding_base AccelerationStructure = none
-binding_base RayQuery = none
-binding_base (BindingArray b n) = some b
+binding_base (Scalar k w) = None
+binding_base (Vector n k w) = None
+binding_base (Matrix c r w) = None
+binding_base (Atomic k w) = None
+binding_base (Pointer b s a) = None
+binding_base (ValuePointer n k w s a) = None
+binding_base (Array b n d) = None
+binding_base (Struct n ms) = None
+binding_base (Image d a c x y) = None
+binding_base (Sampler c) = None
+binding_base AccelerationStructure = None
+binding_base RayQuery = None
+binding_base (BindingArray b n) = Some b
 
 -- the size to which a group and binding are remapped
 unfoldable pub remap_of : List Remap → ℕ → ℕ → Option ℕ
-remap_of [] g b = none
-remap_of (m ∷ ms) g b = pick (eqb m.group g && eqb m.binding b) (some m.size) (remap_of ms g b)
+remap_of [] g b = None
+remap_of (m ∷ ms) g b = pick (eqb m.group g && eqb m.binding b) (Some m.size) (remap_of ms g b)
 
 -- the form of a global's pointer: to its type as it is, to a wrapper, or to a remapped array
 pub data PointerForm : Type 0 where
@@ -358,9 +358,9 @@ pub data PointerForm : Type 0 where
 -- "A bound global of BindingArray type whose group and binding are remapped uses a shared pointer shape .. on other globals a
 -- remap does nothing."
 abbrev pub remapped_form : Option ℕ → Option ℕ → PointerForm
-remapped_form none n = direct
-remapped_form (some b) none = direct
-remapped_form (some b) (some n) = remapped b n
+remapped_form None n = direct
+remapped_form (Some b) None = direct
+remapped_form (Some b) (Some n) = remapped b n
 
 abbrev pub pointer_form_of : Seen → Global → PointerForm
 pointer_form_of n g =
@@ -371,7 +371,7 @@ pointer_form_of n g =
 abbrev pub wrap : List TypeEntry → ℕ → ℕ → State → Got
 wrap ts t class s =
     let w = suc s.last in
-    let g = find (entry t) (decorate_member false ts w 0 (record { type = t; offset = 0; name = none }) (annotate (block w) (take_id s))) in
+    let g = find (entry t) (decorate_member false ts w 0 (record { type = t; offset = 0; name = None }) (annotate (block w) (take_id s))) in
     let u = declare_alone (type_struct w (g.id ∷ [])) g.state in
     got (suc u.last) (declare_alone (type_pointer (suc u.last) class w) (take_id u))
 
@@ -383,8 +383,8 @@ pointer_of (remapped b n) ts g s = find (shape (binding_pointer b n g.space g.ac
 -- "each Storage global of BindingArray type puts Block on the base", where it has none yet (paper 5)
 abbrev pub block_base : Bool → Option ℕ → State → State
 block_base false b s = s
-block_base true none s = s
-block_base true (some b) s = let g = find (entry b) s in block_once g.id g.state
+block_base true None s = s
+block_base true (Some b) s = let g = find (entry b) s in block_once g.id g.state
 
 -- "A Private global without init, or a WorkGroup one under flag bit 1, gets a null.", "a global's null comes after its pointer"
 abbrev pub gets_null : Options → Global → Bool
@@ -395,9 +395,9 @@ pub record GotInit : Type 0 where
   pub state : State
 
 abbrev pub init_for : Option ℕ → Bool → ℕ → State → GotInit
-init_for (some c) b t s = record { init = some (value_at s c).id; state = s }
-init_for none false t s = record { init = none; state = s }
-init_for none true t s = let g = find (entry t) s in let z = null_of g.id g.state in record { init = some z.id; state = z.state }
+init_for (Some c) b t s = record { init = Some (value_at s c).id; state = s }
+init_for None false t s = record { init = None; state = s }
+init_for None true t s = let g = find (entry t) s in let z = null_of g.id g.state in record { init = Some z.id; state = z.state }
 
 unfoldable pub declare_global : Options → Seen → Global → State → State
 declare_global o n g s =

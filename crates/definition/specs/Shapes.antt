@@ -1,6 +1,6 @@
 -- Shapes of types and keys ("Rules", the paragraph on ids), and the instruction that declares a shape.
 use Rattle.std.specs.Prelude.{ℕ, ◌*◌, List, [], ◌∷◌, eqb, get_or}
-use Rattle.std.proofs.Math.Option.{Option, some, none}
+use Rattle.std.specs.Prelude.{Option, Some, None}
 use Rattle.std.proofs.Math.Decide.{ℕ_discrete}
 use Rattle.definition.specs.Choice.{pick}
 use Rattle.definition.specs.Numbers.{StorageClassUniformConstant, StorageClassUniform, StorageClassWorkgroup, StorageClassPrivate, StorageClassFunction, StorageClassPushConstant, StorageClassStorageBuffer}
@@ -121,19 +121,19 @@ abbrev pub count_of : ℕ → Count
 count_of n = pick (eqb n 0) one (many n)
 
 abbrev pub shape_of : TypeInner → Option Shape
-shape_of (Scalar k w) = some (scalar (kind_of k w))
-shape_of (Vector n k w) = some (vector n (kind_of k w))
-shape_of (Matrix c r w) = some (matrix c r w)
-shape_of (Atomic k w) = some (scalar (kind_of k w))
-shape_of (Pointer b s a) = some (pointer b (storage_class s))
-shape_of (ValuePointer n k w s a) = some (value_pointer (count_of n) (kind_of k w) (storage_class s))
-shape_of (Array b n d) = none
-shape_of (Struct n ms) = none
-shape_of (Image d a c x y) = some (image_of d a c x y)
-shape_of (Sampler c) = some sampler
-shape_of AccelerationStructure = some acceleration_structure
-shape_of RayQuery = some ray_query
-shape_of (BindingArray b n) = none
+shape_of (Scalar k w) = Some (scalar (kind_of k w))
+shape_of (Vector n k w) = Some (vector n (kind_of k w))
+shape_of (Matrix c r w) = Some (matrix c r w)
+shape_of (Atomic k w) = Some (scalar (kind_of k w))
+shape_of (Pointer b s a) = Some (pointer b (storage_class s))
+shape_of (ValuePointer n k w s a) = Some (value_pointer (count_of n) (kind_of k w) (storage_class s))
+shape_of (Array b n d) = None
+shape_of (Struct n ms) = None
+shape_of (Image d a c x y) = Some (image_of d a c x y)
+shape_of (Sampler c) = Some sampler
+shape_of AccelerationStructure = Some acceleration_structure
+shape_of RayQuery = Some ray_query
+shape_of (BindingArray b n) = None
 
 -- ---- what a shape's instruction names
 
@@ -143,31 +143,31 @@ pointed_to (many n) k = vector n k
 
 -- the type
 abbrev pub inner : Shape → Option Key
-inner (scalar k) = none
-inner (vector n k) = some (shape (scalar k))
-inner (matrix c r w) = some (shape (vector r (float w)))
-inner (pointer b c) = some (entry b)
-inner (value_pointer n k c) = some (shape (pointed_to n k))
-inner (image k d p a m s f) = some (shape (scalar k))
-inner sampler = none
-inner acceleration_structure = none
-inner ray_query = none
-inner (binding_array b n) = some (entry b)
-inner (binding_pointer b n s a) = some (shape (binding_array b n))
+inner (scalar k) = None
+inner (vector n k) = Some (shape (scalar k))
+inner (matrix c r w) = Some (shape (vector r (float w)))
+inner (pointer b c) = Some (entry b)
+inner (value_pointer n k c) = Some (shape (pointed_to n k))
+inner (image k d p a m s f) = Some (shape (scalar k))
+inner sampler = None
+inner acceleration_structure = None
+inner ray_query = None
+inner (binding_array b n) = Some (entry b)
+inner (binding_pointer b n s a) = Some (shape (binding_array b n))
 
 -- the length
 abbrev pub sized : Shape → Option ℕ
-sized (scalar k) = none
-sized (vector n k) = none
-sized (matrix c r w) = none
-sized (pointer b c) = none
-sized (value_pointer n k c) = none
-sized (image k d p a m s f) = none
-sized sampler = none
-sized acceleration_structure = none
-sized ray_query = none
-sized (binding_array b n) = some n
-sized (binding_pointer b n s a) = none
+sized (scalar k) = None
+sized (vector n k) = None
+sized (matrix c r w) = None
+sized (pointer b c) = None
+sized (value_pointer n k c) = None
+sized (image k d p a m s f) = None
+sized sampler = None
+sized acceleration_structure = None
+sized ray_query = None
+sized (binding_array b n) = Some n
+sized (binding_pointer b n s a) = None
 
 -- how deep a shape nests: above what its instruction names
 abbrev pub rank_of : Shape → ℕ

@@ -2,7 +2,7 @@
 -- Types, constants and globals bear the Rust's names. Document 01's own terms, which the Rust has not, are marked so where they
 -- are defined: sheet, record, tag, rank and start among them.
 use Rattle.std.specs.Prelude.{ℕ, zero, suc, ◌+◌, ◌*◌, ◌-◌, ◌/◌, ◌%◌, Bool, List, [], ◌∷◌, eqb, length, take, drop}
-use Rattle.std.proofs.Math.Option.{Option, some, none}
+use Rattle.std.specs.Prelude.{Option, Some, None}
 use Rattle.definition.specs.Choice.{pick, within}
 use Rattle.definition.specs.Bytes.{u8_at, u16_at, u32_at, u64_at, Name, name_at, name_end}
 use Rattle.definition.specs.Literals.{Literal, f64, f32, u32, i32, boolean}
@@ -220,7 +220,7 @@ constant_fields t b =
 
 -- "16-bit init (65,535 none)", "65,535 for void"
 abbrev pub init_of : ℕ → Option ℕ
-init_of i = pick (eqb i 65535) none (some i)
+init_of i = pick (eqb i 65535) None (Some i)
 
 unfoldable pub function_fields : List ℕ → Fields Function
 function_fields b = ending (3 + 2 * u8_at b 2) (record { result = init_of (u16_at b 0); parameters = u16s_at b 3 (u8_at b 2) })

@@ -1,6 +1,6 @@
 -- What the rules work on: the ids taken, the tables, and the module's sections. It is only added to.
 use Rattle.std.specs.Prelude.{ℕ, suc, zero, ◌+◌, List, [], ◌∷◌, ◌++◌, ◌≡◌, refl, eqb}
-use Rattle.std.proofs.Math.Option.{Option, some, none}
+use Rattle.std.specs.Prelude.{Option, Some, None}
 use Rattle.std.proofs.Math.Decide.{ℕ_discrete}
 use Rattle.std.proofs.Common.{arith}
 use Rattle.definition.specs.Choice.{pick, or_else}
@@ -106,8 +106,8 @@ declare_alone i s = declare_with [] i s
 
 -- the first entry under a key ("arrays searched in order of entry")
 unfoldable pub lookup : {A : Type 0} → Discrete A → A → List (A × ℕ) → Option ℕ
-lookup alike k [] = none
-lookup alike k (x ∷ xs) = elim (alike k x.0) [ yes p ↦ some x.1 | no p ↦ lookup alike k xs ]
+lookup alike k [] = None
+lookup alike k (x ∷ xs) = elim (alike k x.0) [ yes p ↦ Some x.1 | no p ↦ lookup alike k xs ]
 
 -- the id of a key that is entered
 abbrev pub id_of : State → Key → Option ℕ

@@ -1,7 +1,7 @@
 -- Paper 4: the nine column strides as the table that the crews carry, and what is claimed of them. The rules keep document 01's
 -- formula, `Rules.column_stride`; the claims are proved in proofs/Strides.antt.
 use Rattle.std.specs.Prelude.{ℕ, ◌≡◌, true, List, [], ◌∷◌, map}
-use Rattle.std.proofs.Math.Option.{some}
+use Rattle.std.specs.Prelude.{Some}
 use Rattle.definition.specs.Sheet.{Matrix}
 use Rattle.definition.specs.Tests.{fit, inner_fits}
 use Rattle.definition.specs.Rules.{inner_at, column_stride, matrix_stride}
@@ -32,10 +32,10 @@ TableAgrees = tabled column_stride ≡ stride_table
 
 -- the rules' stride of a matrix that test 10 lets through is the formula's
 abbrev pub FormulaWhereFit : Type 0
-FormulaWhereFit = (c r w : ℕ) → inner_fits (Matrix c r w) ≡ true → matrix_stride (Matrix c r w) ≡ some (column_stride r w)
+FormulaWhereFit = (c r w : ℕ) → inner_fits (Matrix c r w) ≡ true → matrix_stride (Matrix c r w) ≡ Some (column_stride r w)
 
 -- "Every stride comes out as before": so it is of every matrix of a sheet that Check fits
 abbrev pub StridesAsBefore : Type 0
 StridesAsBefore =
     (s : List ℕ) (p : Progress) → judged s ≡ fit p
-    → (t c r w : ℕ) → inner_at p.seen.types t ≡ Matrix c r w → matrix_stride (Matrix c r w) ≡ some (column_stride r w)
+    → (t c r w : ℕ) → inner_at p.seen.types t ≡ Matrix c r w → matrix_stride (Matrix c r w) ≡ Some (column_stride r w)

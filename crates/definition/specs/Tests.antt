@@ -1,7 +1,7 @@
 -- Tests 1 to 12 ("Operations and their refusals", "tested in the order written here"). A test answers the number of its
 -- refusal, or 0. Readings of open points: docs/DECISIONS.md.
 use Rattle.std.specs.Prelude.{ℕ, zero, suc, ◌+◌, Bool, true, false, ◌&&◌, ◌||◌, not, List, [], ◌∷◌, ◌++◌, eqb, leb, ltb, length}
-use Rattle.std.proofs.Math.Option.{Option, some, none}
+use Rattle.std.specs.Prelude.{Option, Some, None}
 use Rattle.definition.specs.Choice.{pick, unless, first, within, among, every}
 use Rattle.definition.specs.Bytes.{Name, u16_at}
 use Rattle.definition.specs.Utf8.{name_fits}
@@ -60,10 +60,10 @@ pub record Seen : Type 0 where
   pub globals : List Global
 
 abbrev pub nothing : Seen
-nothing = record { rank = 0; available = none; remaps = []; types = []; functions = []; constants = []; globals = [] }
+nothing = record { rank = 0; available = None; remaps = []; types = []; functions = []; constants = []; globals = [] }
 
 unfoldable pub add : Seen → ℕ → Entry → Seen
-add n r (available cs) = record { rank = r; available = some cs; remaps = n.remaps; types = n.types; functions = n.functions; constants = n.constants; globals = n.globals }
+add n r (available cs) = record { rank = r; available = Some cs; remaps = n.remaps; types = n.types; functions = n.functions; constants = n.constants; globals = n.globals }
 add n r (remap m) = record { rank = r; available = n.available; remaps = n.remaps ++ m ∷ []; types = n.types; functions = n.functions; constants = n.constants; globals = n.globals }
 add n r (type t) = record { rank = r; available = n.available; remaps = n.remaps; types = n.types ++ t ∷ []; functions = n.functions; constants = n.constants; globals = n.globals }
 add n r (function f) = record { rank = r; available = n.available; remaps = n.remaps; types = n.types; functions = n.functions ++ f ∷ []; constants = n.constants; globals = n.globals }
@@ -81,8 +81,8 @@ unfoldable pub no_record : List ℕ → Bool
 no_record rest = not (leb 2 (length rest) && (ltb 0 (u16_at rest 0) && leb (2 + u16_at rest 0) (length rest)))
 
 abbrev pub present : {A : Type 0} → Option A → Bool
-present none = false
-present (some a) = true
+present None = false
+present (Some a) = true
 
 -- "6 a rank lower than the record before, or a second Available"
 abbrev pub out_of_order : Seen → ℕ → Bool
@@ -233,8 +233,8 @@ expression_types (Splat n c) = []
 
 -- an index where there is one: "16-bit init (65,535 none)", "65,535 for void"
 abbrev pub init_list : Option ℕ → List ℕ
-init_list none = []
-init_list (some c) = c ∷ []
+init_list None = []
+init_list (Some c) = c ∷ []
 
 abbrev pub types_named : Entry → List ℕ
 types_named (available cs) = []

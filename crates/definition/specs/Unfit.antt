@@ -1,7 +1,7 @@
 -- Tests 13 and 14: the sentences after "Unfit (13):", and "14 a capability is needed that the rules check for availability,
 -- and it is not available". Unfit is document 01's term.
 use Rattle.std.specs.Prelude.{ℕ, Bool, true, false, ◌&&◌, ◌||◌, not, List, [], ◌∷◌, eqb, ltb, length}
-use Rattle.std.proofs.Math.Option.{Option, some, none}
+use Rattle.std.specs.Prelude.{Option, Some, None}
 use Rattle.definition.specs.Choice.{pick, unless, among, every, or_else}
 use Rattle.definition.specs.Sheet.{TypeInner, TypeEntry, Expression, Global, Entry, function_space, private_space, work_group_space, uniform_space, storage_space, handle_space}
 use Rattle.definition.specs.Sheet.{Scalar, Vector, Matrix, Atomic, Pointer, ValuePointer, Array, Struct, Image, Sampler, AccelerationStructure, RayQuery, BindingArray}
@@ -81,8 +81,8 @@ is_pointer RayQuery = false
 is_pointer (BindingArray b n) = false
 
 abbrev pub init_fits : State → Global → Option ℕ → Bool
-init_fits s g none = true
-init_fits s g (some c) = eqb g.space private_space && of_type s (entry g.type) c
+init_fits s g None = true
+init_fits s g (Some c) = eqb g.space private_space && of_type s (entry g.type) c
 
 unfoldable pub global_fits : List TypeEntry → State → Global → Bool
 global_fits ts s g =
@@ -118,12 +118,12 @@ checked_capabilities (binding_pointer b n s a) = capabilities_of (binding_pointe
 
 -- "Without it every capability is available."
 abbrev pub is_available : Option (List ℕ) → ℕ → Bool
-is_available none c = true
-is_available (some cs) c = among c cs
+is_available None c = true
+is_available (Some cs) c = among c cs
 
 abbrev pub shape_available : Option (List ℕ) → Option Shape → Bool
-shape_available a none = true
-shape_available a (some l) = every (is_available a) (checked_capabilities l)
+shape_available a None = true
+shape_available a (Some l) = every (is_available a) (checked_capabilities l)
 
 abbrev pub entry_available : Seen → Entry → Bool
 entry_available n (available cs) = true

@@ -7,7 +7,7 @@
 --   UTF8-4      = %xF0 %x90-BF 2( UTF8-tail ) / %xF1-F3 3( UTF8-tail ) / %xF4 %x80-8F 2( UTF8-tail )
 --   UTF8-tail   = %x80-BF
 use Rattle.std.specs.Prelude.{ℕ, Bool, true, false, ◌&&◌, List, [], ◌∷◌, leb}
-use Rattle.std.proofs.Math.Option.{Option, some, none}
+use Rattle.std.specs.Prelude.{Option, Some, None}
 use Rattle.definition.specs.Bytes.{Name}
 use Rattle.definition.specs.Choice.{pick, within}
 
@@ -48,14 +48,14 @@ utf8_char =
 
 -- what must follow a first byte: of the one alternative that it can begin, or of none
 abbrev pub follow_of : List Utf8Row → ℕ → Option (List Range)
-follow_of [] b = none
-follow_of (r ∷ rs) b = pick (in_range r.lead b) (some r.follow) (follow_of rs b)
+follow_of [] b = None
+follow_of (r ∷ rs) b = pick (in_range r.lead b) (Some r.follow) (follow_of rs b)
 
 -- the bytes are one for each range, and then whole characters
 unfoldable pub octets : List ℕ → List Range → Bool
 octets [] [] = true
 octets [] (r ∷ rs) = false
-octets (b ∷ bs) [] = elim (follow_of utf8_char b) [ none ↦ false | some rs ↦ octets bs rs ]
+octets (b ∷ bs) [] = elim (follow_of utf8_char b) [ None ↦ false | Some rs ↦ octets bs rs ]
 octets (b ∷ bs) (r ∷ rs) = in_range r b && octets bs rs
 
 unfoldable pub utf8 : List ℕ → Bool
@@ -67,5 +67,5 @@ no_zero (b ∷ bs) = leb 1 b && no_zero bs
 
 -- a name passes test 9
 abbrev pub name_fits : Name → Bool
-name_fits none = true
-name_fits (some bs) = utf8 bs && no_zero bs
+name_fits None = true
+name_fits (Some bs) = utf8 bs && no_zero bs

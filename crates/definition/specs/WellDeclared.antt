@@ -1,8 +1,8 @@
 -- Demand 3, of what a reader finds in the words ("Demand 3's words" and the mission's third demand), one field a clause.
 use Rattle.std.specs.Prelude.{ℕ, ◌+◌, ◌<◌, ◌≤◌, min, Bool, true, false, ◌&&◌, ◌||◌, ◌↔◌, ◌≡◌, eqb, T, take, drop}
 use mathlib.Core.List.{List, [], ◌∷◌, ◌++◌, Memᴰ}
-use Rattle.std.proofs.Math.Option.{Option, some, none}
-use Rattle.std.proofs.Math.ListN.{get_elem?}
+use Rattle.std.specs.Prelude.{Option, Some, None}
+use Rattle.std.specs.Prelude.{slice_get}
 use Rattle.definition.specs.Choice.{pick, among, within, or_else}
 use Rattle.definition.specs.Numbers.{OpName, OpMemberName, OpCapability, OpTypeVoid, OpTypeBool, OpTypeInt, OpTypeFloat, OpTypeVector, OpTypeMatrix, OpTypeImage, OpTypeSampler, OpTypeFunction, OpDecorate, OpMemberDecorate, OpTypeRayQueryKHR, OpTypeAccelerationStructureKHR}
 use Rattle.definition.specs.Numbers.{CapabilityFloat16, CapabilityFloat64, CapabilityInt64, CapabilityInt16, CapabilityInt8, CapabilitySampled1D, CapabilityImage1D, CapabilitySampledCubeArray, CapabilityImageCubeArray, CapabilityStorageImageExtendedFormats, CapabilityRayQueryKHR}
@@ -20,8 +20,8 @@ use Rattle.definition.specs.Operations.{Progress, judged, Written, declare}
 -- ---- "an instruction with a result id declares it"
 
 abbrev pub once : Option ℕ → ℕ → ℕ
-once none i = 0
-once (some r) i = same i r
+once None i = 0
+once (Some r) i = same i r
 
 -- how often an id is declared
 unfoldable pub times : ℕ → List Instruction → ℕ
@@ -29,8 +29,8 @@ times i [] = 0
 times i (x ∷ xs) = once x.result i + times i xs
 
 abbrev pub declares_id : Option ℕ → Bool
-declares_id none = false
-declares_id (some r) = true
+declares_id None = false
+declares_id (Some r) = true
 
 -- ---- ".. and uses its other id operands, result type included": every declaration uses only ids declared above it
 
@@ -183,20 +183,20 @@ plain_entry (BindingArray b n) = false
 
 -- the entry with an index is of such a type, and of a shape
 abbrev pub HasShape : List TypeEntry → ℕ → Shape → Type 0
-HasShape ts h l = (t : TypeEntry) × (get_elem? ts h ≡ some t) × T (plain_entry t.inner) × (shape_of t.inner ≡ some l)
+HasShape ts h l = (t : TypeEntry) × (slice_get ts h ≡ Some t) × T (plain_entry t.inner) × (shape_of t.inner ≡ Some l)
 
 -- "Two entries of such types get one id exactly when their shapes are equal, an entry's id being the one document 01's rules give
 -- it, and the words declare its shape under that id."
 pub record EntriesDeclared (ts : List TypeEntry) (s : State) (is : List Instruction) : Type 0 where
-  pub shared : (h g : ℕ) (l m : Shape) (i j : ℕ) → HasShape ts h l → HasShape ts g m → id_of s (entry h) ≡ some i → id_of s (entry g) ≡ some j → (i ≡ j) ↔ (l ≡ m)
-  pub declared : (h : ℕ) (l : Shape) → HasShape ts h l → (i : ℕ) × (id_of s (entry h) ≡ some i) × (read_type is i ≡ some l)
+  pub shared : (h g : ℕ) (l m : Shape) (i j : ℕ) → HasShape ts h l → HasShape ts g m → id_of s (entry h) ≡ Some i → id_of s (entry g) ≡ Some j → (i ≡ j) ↔ (l ≡ m)
+  pub declared : (h : ℕ) (l : Shape) → HasShape ts h l → (i : ℕ) × (id_of s (entry h) ≡ Some i) × (read_type is i ≡ Some l)
 
 -- ---- function types (paper 2)
 
 -- the ids that a record names, its return type's or void's first, and the id that it gets
 abbrev pub return_id : State → Option ℕ → ℕ
-return_id s none = or_else 0 (lookup same_composite void s.constants.composites)
-return_id s (some t) = entry_id s t
+return_id s None = or_else 0 (lookup same_composite void s.constants.composites)
+return_id s (Some t) = entry_id s t
 
 abbrev pub signature_of : State → Function → List ℕ
 signature_of s f = return_id s f.result ∷ entry_ids s f.parameters
@@ -206,16 +206,16 @@ function_id s f = lookup same_composite (function_key (signature_of s f)) s.cons
 
 -- some record returns void
 abbrev pub VoidReturned : List Function → Type 0
-VoidReturned fs = (f : Function) × Memᴰ f fs × (f.result ≡ none)
+VoidReturned fs = (f : Function) × Memᴰ f fs × (f.result ≡ None)
 
 -- "The rule on shared ids covers void and these types too."
 pub record FunctionsDeclared (fs : List Function) (s : State) (is : List Instruction) : Type 0 where
   -- "Two records with equal return id and equal parameter ids share one id", and no other two
-  pub shared : (f g : Function) (i j : ℕ) → Memᴰ f fs → Memᴰ g fs → function_id s f ≡ some i → function_id s g ≡ some j → (i ≡ j) ↔ (signature_of s f ≡ signature_of s g)
+  pub shared : (f g : Function) (i j : ℕ) → Memᴰ f fs → Memᴰ g fs → function_id s f ≡ Some i → function_id s g ≡ Some j → (i ≡ j) ↔ (signature_of s f ≡ signature_of s g)
   -- "A record with tag 48 holds a return type .. and that many parameter types": the words declare them, in order, under its id
-  pub declared : (f : Function) → Memᴰ f fs → (i : ℕ) × (function_id s f ≡ some i) × (read_function is i ≡ some (signature_of s f))
+  pub declared : (f : Function) → Memᴰ f fs → (i : ℕ) × (function_id s f ≡ Some i) × (read_function is i ≡ Some (signature_of s f))
   -- "65,535 for void": what such a record has for its return type is OpTypeVoid
-  pub returns_void : (f : Function) → Memᴰ f fs → f.result ≡ none → read_void is (return_id s f.result) ≡ true
+  pub returns_void : (f : Function) → Memᴰ f fs → f.result ≡ None → read_void is (return_id s f.result) ≡ true
   -- "void is declared by the first record that returns it": by none where no record does; once at most, as `no_equal_types` says
   pub void_returned : (i : ℕ) → read_void is i ≡ true → VoidReturned fs
 
@@ -228,7 +228,7 @@ written_of s = record { version = version; generator = generator; bound = bound_
 -- what is found in words, of a sheet that came to a progress
 pub record Found (s : List ℕ) (p : Progress) (ws : List ℕ) : Type 0 where
   pub found : Module
-  pub reads : read_module ws ≡ some found
+  pub reads : read_module ws ≡ Some found
   pub written : found ≡ written_of p.state
   pub well : WellDeclared (start_of s) found.bound found.instructions
   pub entries : EntriesDeclared p.seen.types p.state found.instructions

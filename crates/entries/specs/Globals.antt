@@ -1,38 +1,31 @@
 -- A global and a remap of the program as the definition's.
 use Rattle.std.specs.Prelude.{ℕ, ◌≡◌, true, List}
-use Rattle.std.proofs.Math.Option.{Option, some, none}
+use Rattle.std.specs.Prelude.{Option, Some, None}
 use Rattle.definition.specs.Bytes.{name_at, name_end}
 use Rattle.definition.specs.Sheet.{global_fields, global}
 use Rattle.definition.specs.Tests.{values_fit}
 use Rattle.records.specs.Places.{record_from}
-use Rattle.entries.specs.declared.globals.Binding.{Binding}
-use Rattle.entries.specs.declared.globals.Binding.TheVariants.{Unbound, Bound}
-use Rattle.entries.specs.declared.globals.Init.{Init}
-use Rattle.entries.specs.declared.globals.Init.TheVariants.{Missing, Constant}
+use Rattle.entries.specs.declared.globals.ResourceBinding.{ResourceBinding}
 use Rattle.entries.specs.declared.globals.GlobalVariable.{GlobalVariable}
 use Rattle.entries.specs.declared.globals.Remap.{Remap}
 use Rattle.kinds.specs.Numbers.{space_number, space_access}
 use Rattle.definition.specs.Sheet as Defined
 
-abbrev pub init_constant : Init → Option ℕ
-init_constant Missing = none
-init_constant (Constant c) = some c
-
 -- "bound 0 or 1, group, binding (32 bits each, 0 if unbound)"
-abbrev pub bound_number : Binding → ℕ
-bound_number Unbound = 0
-bound_number (Bound r) = 1
+abbrev pub bound_number : Option ResourceBinding → ℕ
+bound_number None = 0
+bound_number (Some r) = 1
 
-abbrev pub group_number : Binding → ℕ
-group_number Unbound = 0
-group_number (Bound r) = r.group
+abbrev pub group_number : Option ResourceBinding → ℕ
+group_number None = 0
+group_number (Some r) = r.group
 
-abbrev pub binding_number : Binding → ℕ
-binding_number Unbound = 0
-binding_number (Bound r) = r.binding
+abbrev pub binding_number : Option ResourceBinding → ℕ
+binding_number None = 0
+binding_number (Some r) = r.binding
 
 -- the binding is that of the global g
-pub record Bindings (x : Binding) (g : Defined.Global) : Type 0 where
+pub record Bindings (x : Option ResourceBinding) (g : Defined.Global) : Type 0 where
   pub bound : bound_number x ≡ g.bound
   pub group : group_number x ≡ g.group
   pub binding : binding_number x ≡ g.binding
@@ -47,7 +40,7 @@ global_of b g = record {
   bound = bound_number g.binding;
   group = group_number g.binding;
   binding = binding_number g.binding;
-  init = init_constant g.init;
+  init = g.init;
 }
 
 abbrev pub remap_as : Remap → Defined.Remap

@@ -1,4 +1,6 @@
 // Constants.
+#![tactic(auto, unfolding(definition::specs::Sheet::constant_fields, definition::specs::Sheet::literal_fields))]
+
 ghost use Rattle.std.specs.Prelude.{◌≡◌, true};
 ghost use Rattle.definition.specs.Sheet.{literal_fields};
 ghost use Rattle.definition.specs.Tests.{literal_fits};
@@ -25,17 +27,7 @@ fn literal_of(b: &[u8]) -> Literal
         1 => literals::f32_of_bits(fields::u32_at(b, 1)),
         2 => literals::u32_of_bits(fields::u32_at(b, 1)),
         3 => literals::i32_of_bits(fields::u32_at(b, 1)),
-        4 => Literal::Bool(fields::u8_at(b, 1) == 1),
-        _ => Literal::Bool(fields::u8_at(b, 1) == 1),
-    }
-}
-
-fn splat(b: &[u8]) -> Expression
-    ensures { ConstantTaken 68 b.now result }
-{
-    Expression::Splat {
-        size: fields::u8_at(b, 0),
-        value: fields::u16_at(b, 1),
+        4 | _ => Literal::Bool(fields::u8_at(b, 1) == 1),
     }
 }
 
@@ -51,7 +43,9 @@ pub fn expression_of(tag: u8, body: &[u8]) -> Expression
             ty: fields::u16_at(body, 0),
             count: fields::u16_at(body, 2),
         },
-        68 => splat(body),
-        _ => splat(body),
+        68 | _ => Expression::Splat {
+            size: fields::u8_at(body, 0),
+            value: fields::u16_at(body, 1),
+        },
     }
 }

@@ -1,10 +1,13 @@
 // Globals and remaps.
+#![tactic(auto, unfolding(definition::specs::Sheet::global_fields, definition::specs::Sheet::remap_fields))]
+
 ghost use Rattle.std.specs.Prelude.{◌≡◌, true, ◌<◌, length, get_or};
 ghost use Rattle.definition.specs.Sheet.{global_fields, remap_fields, init_of};
 ghost use Rattle.definition.specs.Tests.{binding_fits};
 ghost use Rattle.records.specs.Places.{remap_from};
-ghost use Rattle.entries.specs.Globals.{remap_as, init_constant, Bindings, GlobalTaken, GlobalTakenFrom};
+ghost use Rattle.entries.specs.Globals.{remap_as, Bindings, GlobalTaken, GlobalTakenFrom};
 
+use fields::Named;
 use kinds::{AddressSpace, space_of};
 
 #[derive(Clone, Copy)]
@@ -14,23 +17,11 @@ pub struct ResourceBinding {
 }
 
 #[derive(Clone, Copy)]
-pub enum Binding {
-    Unbound,
-    Bound(ResourceBinding),
-}
-
-#[derive(Clone, Copy)]
-pub enum Init {
-    Missing,
-    Constant(u16),
-}
-
-#[derive(Clone, Copy)]
 pub struct GlobalVariable {
     pub space: AddressSpace,
-    pub binding: Binding,
+    pub binding: Option<ResourceBinding>,
     pub ty: u16,
-    pub init: Init,
+    pub init: Option<u16>,
 }
 
 // Document 01's term: an entry of the Rust's `binding_map`, a `BindingInfo` with its binding.
@@ -41,26 +32,23 @@ pub struct Remap {
     pub size: u32,
 }
 
-fn init_of(i: u16) -> Init
-    ensures { init_constant result ≡ init_of i }
+fn init_of(i: u16) -> Option<u16>
+    ensures { result ≡ init_of i }
 {
-    if i == 65535 {
-        return Init::Missing;
-    }
-    Init::Constant(i)
+    if i == 65535 { None } else { Some(i) }
 }
 
-// The binding of a global whose name ends at n.
-fn binding_of(b: &[u8], n: usize) -> Binding
-    requires { n < 300 }
-    ensures { binding_fits (global_fields b.now n).value ≡ true → Bindings result (global_fields b.now n).value }
+// The binding of a global.
+#[tactic(auto, using(crate::proofs::Fit::unbound, crate::proofs::Fit::bound), unfolding(definition::specs::Sheet::global_fields))]
+fn binding_of(named: Named<'_>) -> Option<ResourceBinding>
+    ensures { binding_fits (global_fields named.entry.body.now named.entry.end).value ≡ true → Bindings result (global_fields named.entry.body.now named.entry.end).value }
 {
-    if fields::u8_at(b, n + 4) == 0 {
-        return Binding::Unbound;
+    if named.u8_at(4) == 0 {
+        return None;
     }
-    Binding::Bound(ResourceBinding {
-        group: fields::u32_at(b, n + 5),
-        binding: fields::u32_at(b, n + 9),
+    Some(ResourceBinding {
+        group: named.u32_at(5),
+        binding: named.u32_at(9),
     })
 }
 
@@ -77,14 +65,14 @@ pub fn global_at(sheet: &[u8], globals: &[u32], index: usize) -> GlobalVariable
 pub fn global_of(body: &[u8]) -> GlobalVariable
     ensures { GlobalTaken body.now result }
 {
-    let n = fields::name_end(body, 0);
-    let space = space_of(fields::u8_at(body, n + 2), fields::u8_at(body, n + 3));
-    let binding = binding_of(body, n);
-    let init = init_of(fields::u16_at(body, n + 13));
+    let named = Named::new(body);
+    let space = space_of(named.u8_at(2), named.u8_at(3));
+    let binding = binding_of(named);
+    let init = init_of(named.u16_at(13));
     GlobalVariable {
         space,
         binding,
-        ty: fields::u16_at(body, n),
+        ty: named.u16_at(0),
         init,
     }
 }

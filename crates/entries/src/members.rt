@@ -1,4 +1,6 @@
 // Names in a record's body, which have no fixed length, and where a struct's members start.
+#![tactic(auto, unfolding(definition::specs::Bytes::name_at))]
+
 ghost use Rattle.std.specs.Prelude.{◌≡◌, [], ◌+◌, ◌<◌, ◌^◌};
 ghost use Rattle.definition.specs.Bytes.{name_at, name_end};
 ghost use Rattle.definition.specs.Choice.{or_else};
@@ -16,11 +18,10 @@ pub fn name_part(body: &[u8], index: usize) -> &[u8]
     requires { index < 2 ^ 63 }
     ensures { result.now ≡ or_else [] (name_at body.now index) }
 {
-    let n = fields::u8_at(body, index);
-    if n == 255 {
-        return fields::part(body, 0, 0);
+    match fields::u8_at(body, index) {
+        255 => &[],
+        n => fields::part(body, index + 1, n as usize),
     }
-    fields::part(body, index + 1, n as usize)
 }
 
 // Where the members of a struct start.

@@ -1,8 +1,10 @@
-// Types: the fields behind the name, which ends at n.
-ghost use Rattle.std.specs.Prelude.{◌<◌};
+// Types: the fields behind the name.
+#![tactic(auto, using(kinds::proofs::Fit::kind), unfolding(definition::specs::Sheet::type_fields))]
+
 ghost use Rattle.definition.specs.Bytes.{name_end};
 ghost use Rattle.entries.specs.Types.{TypeTaken};
 
+use fields::Named;
 use kinds::{
     AddressSpace, ImageClass, ImageDimension, ScalarKind, class_of, dimension_of, kind_of, space_of,
 };
@@ -67,140 +69,125 @@ pub enum TypeInner {
 pub fn inner_of(tag: u8, body: &[u8]) -> TypeInner
     ensures { TypeTaken tag body.now (name_end body.now 0) result }
 {
-    let n = fields::name_end(body, 0);
+    let named = Named::new(body);
     match tag {
-        16 => scalar(body, n),
-        17 => vector(body, n),
-        18 => matrix(body, n),
-        19 => atomic(body, n),
-        20 => pointer(body, n),
-        21 => value_pointer(body, n),
-        22 => array(body, n),
-        23 => structure(body, n),
-        24 => image(body, n),
-        25 => sampler(body, n),
+        16 => scalar(named),
+        17 => vector(named),
+        18 => matrix(named),
+        19 => atomic(named),
+        20 => pointer(named),
+        21 => value_pointer(named),
+        22 => array(named),
+        23 => structure(named),
+        24 => image(named),
+        25 => sampler(named),
         26 => TypeInner::AccelerationStructure,
         27 => TypeInner::RayQuery,
-        28 => binding_array(body, n),
-        _ => binding_array(body, n),
+        28 | _ => binding_array(named),
     }
 }
 
-fn scalar(b: &[u8], n: usize) -> TypeInner
-    requires { n < 300 }
-    ensures { TypeTaken 16 b.now n result }
+fn scalar(named: Named<'_>) -> TypeInner
+    ensures { TypeTaken 16 named.entry.body.now named.entry.end result }
 {
     TypeInner::Scalar {
-        kind: kind_of(fields::u8_at(b, n)),
-        width: fields::u8_at(b, n + 1),
+        kind: kind_of(named.u8_at(0)),
+        width: named.u8_at(1),
     }
 }
 
-fn vector(b: &[u8], n: usize) -> TypeInner
-    requires { n < 300 }
-    ensures { TypeTaken 17 b.now n result }
+fn vector(named: Named<'_>) -> TypeInner
+    ensures { TypeTaken 17 named.entry.body.now named.entry.end result }
 {
     TypeInner::Vector {
-        size: fields::u8_at(b, n),
-        kind: kind_of(fields::u8_at(b, n + 1)),
-        width: fields::u8_at(b, n + 2),
+        size: named.u8_at(0),
+        kind: kind_of(named.u8_at(1)),
+        width: named.u8_at(2),
     }
 }
 
-fn matrix(b: &[u8], n: usize) -> TypeInner
-    requires { n < 300 }
-    ensures { TypeTaken 18 b.now n result }
+fn matrix(named: Named<'_>) -> TypeInner
+    ensures { TypeTaken 18 named.entry.body.now named.entry.end result }
 {
     TypeInner::Matrix {
-        columns: fields::u8_at(b, n),
-        rows: fields::u8_at(b, n + 1),
-        width: fields::u8_at(b, n + 2),
+        columns: named.u8_at(0),
+        rows: named.u8_at(1),
+        width: named.u8_at(2),
     }
 }
 
-fn atomic(b: &[u8], n: usize) -> TypeInner
-    requires { n < 300 }
-    ensures { TypeTaken 19 b.now n result }
+fn atomic(named: Named<'_>) -> TypeInner
+    ensures { TypeTaken 19 named.entry.body.now named.entry.end result }
 {
     TypeInner::Atomic {
-        kind: kind_of(fields::u8_at(b, n)),
-        width: fields::u8_at(b, n + 1),
+        kind: kind_of(named.u8_at(0)),
+        width: named.u8_at(1),
     }
 }
 
-fn pointer(b: &[u8], n: usize) -> TypeInner
-    requires { n < 300 }
-    ensures { TypeTaken 20 b.now n result }
+fn pointer(named: Named<'_>) -> TypeInner
+    ensures { TypeTaken 20 named.entry.body.now named.entry.end result }
 {
     TypeInner::Pointer {
-        base: fields::u16_at(b, n),
-        space: space_of(fields::u8_at(b, n + 2), fields::u8_at(b, n + 3)),
+        base: named.u16_at(0),
+        space: space_of(named.u8_at(2), named.u8_at(3)),
     }
 }
 
-fn value_pointer(b: &[u8], n: usize) -> TypeInner
-    requires { n < 300 }
-    ensures { TypeTaken 21 b.now n result }
+fn value_pointer(named: Named<'_>) -> TypeInner
+    ensures { TypeTaken 21 named.entry.body.now named.entry.end result }
 {
     TypeInner::ValuePointer {
-        size: fields::u8_at(b, n),
-        kind: kind_of(fields::u8_at(b, n + 1)),
-        width: fields::u8_at(b, n + 2),
-        space: space_of(fields::u8_at(b, n + 3), fields::u8_at(b, n + 4)),
+        size: named.u8_at(0),
+        kind: kind_of(named.u8_at(1)),
+        width: named.u8_at(2),
+        space: space_of(named.u8_at(3), named.u8_at(4)),
     }
 }
 
-fn array(b: &[u8], n: usize) -> TypeInner
-    requires { n < 300 }
-    ensures { TypeTaken 22 b.now n result }
+fn array(named: Named<'_>) -> TypeInner
+    ensures { TypeTaken 22 named.entry.body.now named.entry.end result }
 {
     TypeInner::Array {
-        base: fields::u16_at(b, n),
-        size: fields::u32_at(b, n + 2),
-        stride: fields::u32_at(b, n + 6),
+        base: named.u16_at(0),
+        size: named.u32_at(2),
+        stride: named.u32_at(6),
     }
 }
 
-fn structure(b: &[u8], n: usize) -> TypeInner
-    requires { n < 300 }
-    ensures { TypeTaken 23 b.now n result }
+fn structure(named: Named<'_>) -> TypeInner
+    ensures { TypeTaken 23 named.entry.body.now named.entry.end result }
 {
     TypeInner::Struct {
-        span: fields::u32_at(b, n),
-        count: fields::u8_at(b, n + 4),
+        span: named.u32_at(0),
+        count: named.u8_at(4),
     }
 }
 
-fn image(b: &[u8], n: usize) -> TypeInner
-    requires { n < 300 }
-    ensures { TypeTaken 24 b.now n result }
+fn image(named: Named<'_>) -> TypeInner
+    ensures { TypeTaken 24 named.entry.body.now named.entry.end result }
 {
-    let class = class_of(
-        fields::u8_at(b, n + 2),
-        fields::u8_at(b, n + 3),
-        fields::u8_at(b, n + 4),
-    );
+    let class = class_of(named.u8_at(2), named.u8_at(3), named.u8_at(4));
     TypeInner::Image {
-        dim: dimension_of(fields::u8_at(b, n)),
-        arrayed: fields::u8_at(b, n + 1) == 1,
+        dim: dimension_of(named.u8_at(0)),
+        arrayed: named.u8_at(1) == 1,
         class,
     }
 }
 
-fn sampler(b: &[u8], n: usize) -> TypeInner
-    ensures { TypeTaken 25 b.now n result }
+fn sampler(named: Named<'_>) -> TypeInner
+    ensures { TypeTaken 25 named.entry.body.now named.entry.end result }
 {
     TypeInner::Sampler {
-        comparison: fields::u8_at(b, n) == 1,
+        comparison: named.u8_at(0) == 1,
     }
 }
 
-fn binding_array(b: &[u8], n: usize) -> TypeInner
-    requires { n < 300 }
-    ensures { TypeTaken 28 b.now n result }
+fn binding_array(named: Named<'_>) -> TypeInner
+    ensures { TypeTaken 28 named.entry.body.now named.entry.end result }
 {
     TypeInner::BindingArray {
-        base: fields::u16_at(b, n),
-        size: fields::u32_at(b, n + 2),
+        base: named.u16_at(0),
+        size: named.u32_at(2),
     }
 }

@@ -12,12 +12,11 @@ use lib.ListN.{length}
 use Rattle.definition.specs.Answered.{Whole, Unchanged, Refusal}
 use Rattle.definition.specs.Listing.{Listing, Listed, Relisted, WholeList, Unlisted, ListRefusal}
 use Rattle.definition.specs.Operations.{Verdict, Answer, Written, Declared, Wrapping, Wraps}
-use Rattle.module_layout.specs.declared.Answer.{Answer as Given}
+use Rattle.std.specs.Prelude.{Result}
+use Rattle.refusals.specs.declared.Refusal.{Refusal as RefusedBy}
+use Rattle.module_layout.specs.declared.Module.{Module}
 use Rattle.module_layout.specs.Finished.{answer_of, declared_as}
-use Rattle.declarations.specs.declared.Verdict.{Verdict as GivenVerdict}
-use Rattle.declarations.specs.declared.Wrapping.{Wrapping as GivenWrapping}
 use Rattle.declarations.specs.Promise.{DeclarePromise, CheckPromise, WrappedPromise, verdict_as, wrapping_as}
-use Rattle.listing.specs.declared.Listing.{Listing as GivenListing}
 use Rattle.listing.specs.Promise.{ListPromise, listing_as, relisted_as}
 use Rattle.exports.specs.Numbers.{verdict_number, answer_number, wrapping_number, listing_number, LengthFits, verdict_in, answer_in, wrapping_in, listing_in, declared_in, relisted_in, CheckExported, DeclareExported, WrappedExported, ListExported}
 
@@ -27,7 +26,7 @@ check_says : (v : Verdict) → (v ≡ Verdict.Fit) ⊎ ((n : ℕ) × Refusal n �
 check_says v (inl e) = rw e refl
 check_says v (inr q) = rw (q.2, ne_eqb q.0 0 (λ e. omega (arith, q.1.0))) refl
 
-pub check_exported : (s : List ℕ) (v : GivenVerdict) (n : ℕ) → n ≡ verdict_number (verdict_as v) → CheckPromise s v → CheckExported s n
+pub check_exported : (s : List ℕ) (v : Result (Unit {0}) RefusedBy) (n : ℕ) → n ≡ verdict_number (verdict_as v) → CheckPromise s v → CheckExported s n
 check_exported s v n e p =
     let q : verdict_in n ≡ verdict_as v = ap verdict_in e ∙ check_says (verdict_as v) p.answered in
     record { answered = rw q p.answered; same = q ∙ p.same }
@@ -45,7 +44,7 @@ written_says count bound c b =
 refused_says : (n : ℕ) → n ≤ 16 → answer_in (answer_number (Answer.Refused n)) ≡ Answer.Refused n
 refused_says n l = rw (lt-ltb n 4294967296 (omega arith)) refl
 
-number_says : (s b : List ℕ) (r : Given) (after : List ℕ) → DeclarePromise s b r after → answer_in (answer_number (answer_of r)) ≡ answer_of r
+number_says : (s b : List ℕ) (r : Result Module RefusedBy) (after : List ℕ) → DeclarePromise s b r after → answer_in (answer_number (answer_of r)) ≡ answer_of r
 number_says s b r after p = go p.answered
   where
     few : {n : ℕ} → Refusal n ⊎ (n ≡ 16) → n ≤ 16
@@ -56,7 +55,7 @@ number_says s b r after p = go p.answered
     go (inl w) = subst (λ (a : Answer). answer_in (answer_number a) ≡ a) (sym w.answer) (written_says _ _ (p.counted _ _ w.answer) (omega arith))
     go (inr u) = subst (λ (a : Answer). answer_in (answer_number a) ≡ a) (sym u.answer) (refused_says u.number (few u.known))
 
-pub declare_exported : (s b : List ℕ) (r : Given) (n : ℕ) (after : List ℕ) → n ≡ answer_number (answer_of r) → DeclarePromise s b r after → DeclareExported s b n after
+pub declare_exported : (s b : List ℕ) (r : Result Module RefusedBy) (n : ℕ) (after : List ℕ) → n ≡ answer_number (answer_of r) → DeclarePromise s b r after → DeclareExported s b n after
 declare_exported s b r n after e p =
     let q : answer_in n ≡ answer_of r = ap answer_in e ∙ number_says s b r after p in
     let d : declared_in n after ≡ declared_as r after = λ i. record { answer = q i; buffer = after } in
@@ -80,7 +79,7 @@ wrapping_says w (inr q) = let l : q.0 ≤ 17 = few q.1 in rw (q.2, ne_eqb q.0 25
     few (inl h) = omega (arith, h.1)
     few (inr e) = omega arith
 
-pub wrapped_exported : (s : List ℕ) (index : ℕ) (w : GivenWrapping) (n : ℕ) → n ≡ wrapping_number (wrapping_as w) → WrappedPromise s index w → WrappedExported s index n
+pub wrapped_exported : (s : List ℕ) (index : ℕ) (w : Result Bool RefusedBy) (n : ℕ) → n ≡ wrapping_number (wrapping_as w) → WrappedPromise s index w → WrappedExported s index n
 wrapped_exported s index w n e p =
     let q : wrapping_in n ≡ wrapping_as w = ap wrapping_in e ∙ wrapping_says (wrapping_as w) p.answered in
     record { answered = rw q p.answered; same = q ∙ p.same }
@@ -88,7 +87,7 @@ wrapped_exported s index w n e p =
 -- ---- List
 
 -- the list lies within the buffer, whose length has 61 bits
-pub length_fits : (ws b : List ℕ) (r : GivenListing) (after : List ℕ) → length b < 9223372036854775808 → ListPromise ws b r after → LengthFits (listing_as r)
+pub length_fits : (ws b : List ℕ) (r : Result ℕ RefusedBy) (after : List ℕ) → length b < 9223372036854775808 → ListPromise ws b r after → LengthFits (listing_as r)
 length_fits ws b r after h p = go (listing_as r) p.answered
   where
     go : (a : Listing) → WholeList ws b (record { answer = a; buffer = after }) ⊎ Unlisted b (record { answer = a; buffer = after }) → LengthFits a
@@ -106,7 +105,7 @@ listing_says a (inr q) = rw (q.2, lt-ltb q.0 256 (omega (arith, few q.1))) refl
     few (inl (inr (inr e))) = omega arith
     few (inr e) = omega arith
 
-pub list_exported : (ws b : List ℕ) (r : GivenListing) (n : ℕ) (after : List ℕ) → n ≡ listing_number (listing_as r) → ListPromise ws b r after → ListExported ws b n after
+pub list_exported : (ws b : List ℕ) (r : Result ℕ RefusedBy) (n : ℕ) (after : List ℕ) → n ≡ listing_number (listing_as r) → ListPromise ws b r after → ListExported ws b n after
 list_exported ws b r n after e p =
     let q : listing_in n ≡ listing_as r = ap listing_in e ∙ listing_says (listing_as r) (cases p.answered) in
     let d : relisted_in n after ≡ relisted_as r after = λ i. record { answer = q i; buffer = after } in

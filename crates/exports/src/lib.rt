@@ -7,49 +7,44 @@ ghost use Rattle.declarations.specs.Promise.{verdict_as, wrapping_as};
 ghost use Rattle.listing.specs.Promise.{listing_as};
 ghost use Rattle.exports.specs.Numbers.{verdict_number, answer_number, wrapping_number, listing_number, LengthFits, CheckExported, DeclareExported, WrappedExported, ListExported};
 
-use declarations::{Verdict, Wrapping};
-use listing::Listing;
-use module_layout::Answer;
+use module_layout::Module;
+use refusals::Refusal;
 
-fn number_of_verdict(v: Verdict) -> u32
+fn number_of_verdict(v: Result<(), Refusal>) -> u32
     ensures { result ≡ verdict_number (verdict_as v) }
 {
     match v {
-        Verdict::Fit => 0,
-        Verdict::Refused(n) => n as u32,
+        Ok(()) => 0,
+        Err(refusal) => refusal.number() as u32,
     }
 }
 
-fn number_of_answer(a: Answer) -> u64
+fn number_of_answer(a: Result<Module, Refusal>) -> u64
     ensures { result ≡ answer_number (answer_of a) }
 {
     match a {
-        Answer::Written(count, bound) => 4294967296 * (bound as u64) + (count as u64) % 4294967296,
-        Answer::Refused(n) => n as u64,
+        Ok(module) => 4294967296 * (module.bound as u64) + (module.words as u64) % 4294967296,
+        Err(refusal) => refusal.number() as u64,
     }
 }
 
-fn number_of_wrapping(w: Wrapping) -> u32
+fn number_of_wrapping(w: Result<bool, Refusal>) -> u32
     ensures { result ≡ wrapping_number (wrapping_as w) }
 {
     match w {
-        Wrapping::Wraps(yes) => {
-            if yes {
-                return 257;
-            }
-            256
-        }
-        Wrapping::Refused(n) => n as u32,
+        Ok(true) => 257,
+        Ok(false) => 256,
+        Err(refusal) => refusal.number() as u32,
     }
 }
 
-fn number_of_listing(l: Listing) -> u64
+fn number_of_listing(l: Result<usize, Refusal>) -> u64
     requires { LengthFits (listing_as l) }
     ensures { result ≡ listing_number (listing_as l) }
 {
     match l {
-        Listing::Listed(n) => 256 + n as u64,
-        Listing::Refused(n) => n as u64,
+        Ok(n) => 256 + n as u64,
+        Err(refusal) => refusal.number() as u64,
     }
 }
 

@@ -1,4 +1,3 @@
 pub mod Numbers
-pub mod Parts
-pub mod Rows
 pub mod Octets
+pub mod Arrays

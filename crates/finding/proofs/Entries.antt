@@ -2,7 +2,7 @@
 use Prim.Native.Nat.{ℕ}
 use mathlib.Core.Path.{◌≡◌, refl, sym, subst}
 use mathlib.Core.List.{List}
-use mathlib.Core.Option.{Option, some, none}
+use Rattle.std.specs.Prelude.{Option, Some, None}
 use native.Mathlib.Omega.{arith}
 use Rattle.definition.specs.Choice.{or_else}
 use Rattle.definition.specs.Shapes.{same_key, entry}
@@ -19,8 +19,8 @@ unfolding find find_at
 entry_found h s = go (lookup same_key (entry h) s.types)
   where
     go : (o : Option ℕ) → or_new_key o (λ k s. got 0 s) (entry h) s ≡ got (or_else 0 o) s
-    go (some i) = refl
-    go none = refl
+    go (Some i) = refl
+    go None = refl
 
 pub entry_got : (h : ℕ) (w : Writer) (T : List ℕ) (x : ℕ) → ((S : List ℕ) (s : State) → Held w T S s → x ≡ or_else 0 (id_of s (entry h)))
     → (S : List ℕ) → GotBy no_cost (find (entry h)) w T S (taken x w) T S

@@ -2,7 +2,7 @@
 -- holds more holds less.
 use Prim.Native.Nat.{ℕ, suc, ◌≤◌}
 use mathlib.Core.Path.{◌≡◌, refl}
-use mathlib.Core.Option.{some, none}
+use Rattle.std.specs.Prelude.{Some, None}
 use native.Mathlib.Omega.{arith}
 use Rattle.definition.specs.Shapes.{Shape, Key, inner, sized, rank, rank_of}
 use Rattle.definition.specs.Shapes.{float, one, many, scalar, vector, matrix, pointer, value_pointer, image, sampler, acceleration_structure, ray_query, binding_array, binding_pointer, entry, shape}
@@ -25,7 +25,7 @@ pub record AtMost (c d : Cost) : Type 0 where
   pub ids : c.ids ≤ d.ids
 
 -- a shape is one deeper than what it names
-pub inner_rank : (l : Shape) (k : Key) → inner l ≡ some k → rank_of l ≡ suc (rank k)
+pub inner_rank : (l : Shape) (k : Key) → inner l ≡ Some k → rank_of l ≡ suc (rank k)
 inner_rank (scalar a) k e = let z : ◌≡◌ {A = ℕ} 0 1 = cc in omega arith
 inner_rank (vector n a) k e = let h : shape (scalar a) ≡ k = cc in rw (← h) refl
 inner_rank (matrix c r w) k e = let h : shape (vector r (float w)) ≡ k = cc in rw (← h) refl
@@ -40,7 +40,7 @@ inner_rank (binding_array b n) k e = let h : entry b ≡ k = cc in rw (← h) re
 inner_rank (binding_pointer b n s a) k e = let h : shape (binding_array b n) ≡ k = cc in rw (← h) refl
 
 -- its price has room for what it names and for its own instruction
-pub inner_price : (l : Shape) (k : Key) → inner l ≡ some k → AtMost (cost_of k ⊕ own_cost l) (declared_cost l)
+pub inner_price : (l : Shape) (k : Key) → inner l ≡ Some k → AtMost (cost_of k ⊕ own_cost l) (declared_cost l)
 inner_price (scalar a) k e = let z : ◌≡◌ {A = ℕ} 0 1 = cc in omega arith
 inner_price (vector n a) k e = let h : shape (scalar a) ≡ k = cc in rw (← h) (omega arith)
 inner_price (matrix c r w) k e = let h : shape (vector r (float w)) ≡ k = cc in rw (← h) (omega arith)
@@ -56,13 +56,13 @@ inner_price (binding_pointer b n s a) k e = let h : shape (binding_array b n) �
 
 -- only an array names a length, and it names an entry
 module _ (l : Shape) (n : ℕ) where
-  none_sized : none ≡ some n → ⊥
+  none_sized : None ≡ Some n → ⊥
   none_sized e = let z : ◌≡◌ {A = ℕ} 0 1 = cc in omega arith
 
-  pub sized_rank : sized l ≡ some n → rank_of l ≡ 1
+  pub sized_rank : sized l ≡ Some n → rank_of l ≡ 1
   sized_rank e = go l e
     where
-      go : (l : Shape) → sized l ≡ some n → rank_of l ≡ 1
+      go : (l : Shape) → sized l ≡ Some n → rank_of l ≡ 1
       go (scalar a) e = absurd (none_sized e)
       go (vector m a) e = absurd (none_sized e)
       go (matrix c r w) e = absurd (none_sized e)
@@ -75,10 +75,10 @@ module _ (l : Shape) (n : ℕ) where
       go (binding_array b m) e = refl
       go (binding_pointer b m s a) e = absurd (none_sized e)
 
-  pub sized_price : (k : Key) → inner l ≡ some k → sized l ≡ some n → AtMost (cost_of k ⊕ literal_cost ⊕ own_cost l) (declared_cost l)
+  pub sized_price : (k : Key) → inner l ≡ Some k → sized l ≡ Some n → AtMost (cost_of k ⊕ literal_cost ⊕ own_cost l) (declared_cost l)
   sized_price k i e = go l i e
     where
-      go : (l : Shape) → inner l ≡ some k → sized l ≡ some n → AtMost (cost_of k ⊕ literal_cost ⊕ own_cost l) (declared_cost l)
+      go : (l : Shape) → inner l ≡ Some k → sized l ≡ Some n → AtMost (cost_of k ⊕ literal_cost ⊕ own_cost l) (declared_cost l)
       go (scalar a) i e = absurd (none_sized e)
       go (vector m a) i e = absurd (none_sized e)
       go (matrix c r w) i e = absurd (none_sized e)
@@ -92,7 +92,7 @@ module _ (l : Shape) (n : ℕ) where
       go (binding_pointer b m s a) i e = absurd (none_sized e)
 
 -- what names no type names no length
-pub bare : (l : Shape) → inner l ≡ none → sized l ≡ none
+pub bare : (l : Shape) → inner l ≡ None → sized l ≡ None
 bare (scalar a) e = refl
 bare (vector n a) e = refl
 bare (matrix c r w) e = refl

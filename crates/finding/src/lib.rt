@@ -9,7 +9,6 @@ ghost use Rattle.definition.specs.Shapes.{kind_of, scalar, shape};
 ghost use Rattle.definition.specs.State.{State, id_of};
 ghost use Rattle.definition.specs.Literals.{u32 as unsigned};
 ghost use Rattle.definition.specs.Finding.{find, literal, literal_kind, literal_op, null_of};
-ghost use Rattle.kinds.specs.Numbers.{kind_number};
 ghost use Rattle.literals.specs.Forms.{literal_of};
 ghost use Rattle.lookup.specs.Local.{local_shape, key_of};
 ghost use Rattle.lookup.specs.Packed.{SmallShape};
@@ -22,12 +21,12 @@ ghost use Rattle.finding.specs.Found.{shape_declared, ShapePut};
 
 use kinds::ScalarKind;
 use literals::Literal;
-use lookup::{Inner, Length, LocalType, LookupType, PointerSpace, VectorSize};
+use lookup::{LocalType, LookupType, value_type};
 use spirv::low_word;
 use writer::sections::{
     constant_32bit, constant_64bit, constant_false, constant_null, constant_true,
 };
-use writer::{DECLARATIONS, Sought, Taken, Writer};
+use writer::{DECLARATIONS, Taken, Writer};
 
 // ---- types
 
@@ -67,14 +66,14 @@ pub fn get_type_id(tables: &mut [u64], sections: &mut [u32], w: Writer, ty: Look
 {
     match ty {
         LookupType::Handle(h) => match writer::find_type(tables, w, lookup::handle_key(h)) {
-            Sought::Id(id) => Taken { id, writer: w },
-            Sought::Absent => Taken { id: 0, writer: w },
+            Some(id) => Taken { id, writer: w },
+            None => Taken { id: 0, writer: w },
         },
         LookupType::Local(l) => {
             let k = lookup::local_key(l);
             match writer::find_type(tables, w, k) {
-                Sought::Id(id) => Taken { id, writer: w },
-                Sought::Absent => {
+                Some(id) => Taken { id, writer: w },
+                None => {
                     let n = writer::take_id(w);
                     let id = n.id;
                     let v = writer::enter_type(tables, n.writer, k, id);
@@ -99,12 +98,12 @@ fn write_type_declaration_local(
     ensures { Kept (declared_cost (local_shape l)) (shape_declared (local_shape l) id) w tables.old sections.old result tables.new sections.new }
 {
     match lookup::inner_type(l) {
-        Inner::Nothing => put_declaration(sections, w, l, id, 0, 0),
-        Inner::Of(t) => {
+        None => put_declaration(sections, w, l, id, 0, 0),
+        Some(t) => {
             let f = get_type_id(tables, sections, w, t);
             match lookup::length_of(l) {
-                Length::Nothing => put_declaration(sections, f.writer, l, id, f.id, 0),
-                Length::Of(n) => {
+                None => put_declaration(sections, f.writer, l, id, f.id, 0),
+                Some(n) => {
                     let g = get_constant_scalar(tables, sections, f.writer, Literal::U32(n));
                     put_declaration(sections, g.writer, l, id, f.id, g.id)
                 }
@@ -120,35 +119,23 @@ pub fn type_id(tables: &[u64], w: Writer, ty: LookupType) -> u64
     ensures { (S : List ℕ) (s : State) → Held w tables.now S s → result ≡ or_else 0 (id_of s (key_of ty)) }
 {
     match writer::find_type(tables, w, lookup::key(ty)) {
-        Sought::Id(id) => id,
-        Sought::Absent => 0,
+        Some(id) => id,
+        None => 0,
     }
 }
 
 // ---- literals
 
-fn scalar_type(kind: ScalarKind, width: u8) -> LookupType
-    ensures { key_of result ≡ shape (scalar (kind_of (kind_number kind) width)) }
-{
-    LookupType::Local(LocalType::Value {
-        vector_size: VectorSize::Nothing,
-        kind,
-        width,
-        pointer_space: PointerSpace::Nothing,
-    })
-}
-
+#[tactic(auto, unfolding(definition::specs::Shapes::kind_of))]
 pub fn literal_type(value: Literal) -> LookupType
     ensures { key_of result ≡ shape (scalar (literal_kind (literal_of value))) }
 {
     match value {
-        Literal::F64(_) => scalar_type(ScalarKind::Float, 8),
-        Literal::F32(_) => scalar_type(ScalarKind::Float, 4),
-        Literal::Nan64(_) => scalar_type(ScalarKind::Float, 8),
-        Literal::Nan32(_) => scalar_type(ScalarKind::Float, 4),
-        Literal::U32(_) => scalar_type(ScalarKind::Uint, 4),
-        Literal::I32(_) => scalar_type(ScalarKind::Sint, 4),
-        Literal::Bool(_) => scalar_type(ScalarKind::Bool, 1),
+        Literal::F64(_) | Literal::Nan64(_) => value_type(None, ScalarKind::Float, 8),
+        Literal::F32(_) | Literal::Nan32(_) => value_type(None, ScalarKind::Float, 4),
+        Literal::U32(_) => value_type(None, ScalarKind::Uint, 4),
+        Literal::I32(_) => value_type(None, ScalarKind::Sint, 4),
+        Literal::Bool(_) => value_type(None, ScalarKind::Bool, 1),
     }
 }
 
@@ -189,8 +176,8 @@ pub fn get_constant_scalar(
     let form = literals::form(value) as u64;
     let bits = literals::bits(value);
     match writer::find_literal(tables, w, form, bits) {
-        Sought::Id(id) => Taken { id, writer: w },
-        Sought::Absent => {
+        Some(id) => Taken { id, writer: w },
+        None => {
             let m = writer::take_id(w);
             let id = m.id;
             let f = get_type_id(tables, sections, m.writer, literal_type(value));
@@ -217,8 +204,8 @@ pub fn get_constant_null(tables: &mut [u64], sections: &mut [u32], w: Writer, ty
     ensures { GotBy null_cost (null_of ty) w tables.old sections.old result tables.new sections.new }
 {
     match writer::find_null(tables, w, ty) {
-        Sought::Id(id) => Taken { id, writer: w },
-        Sought::Absent => {
+        Some(id) => Taken { id, writer: w },
+        None => {
             let m = writer::take_id(w);
             let id = m.id;
             let v = constant_null(sections, m.writer, ty, id);

@@ -42,6 +42,8 @@ pub enum ImageClass {
     Storage { format: u8, access: u8 },
 }
 
+// From the sheet's numbers. Not `TryFrom`, which may fail: these answer for every byte, and the tests see to it that only those of
+// document 01 come here.
 pub fn kind_of(k: u8) -> ScalarKind
     ensures { k ≤ 3 → kind_number result ≡ k }
 {
@@ -53,6 +55,7 @@ pub fn kind_of(k: u8) -> ScalarKind
     }
 }
 
+#[tactic(auto, unfolding(definition::specs::Tests::space_fits))]
 pub fn space_of(space: u8, access: u8) -> AddressSpace
     ensures { space_fits space access ≡ true → (space_number result ≡ space) × (space_access result ≡ access) }
 {
@@ -67,7 +70,7 @@ pub fn space_of(space: u8, access: u8) -> AddressSpace
     }
 }
 
-// The number of a space, the inverse of space_of's first byte.
+// The number of a space, the inverse of space_of's first byte. No cast: one of the cases carries its access.
 pub fn space_number(space: AddressSpace) -> u8
     ensures { (result ≡ space_number space) × (result < 8) }
 {
@@ -76,7 +79,7 @@ pub fn space_number(space: AddressSpace) -> u8
         AddressSpace::Private => 1,
         AddressSpace::WorkGroup => 2,
         AddressSpace::Uniform => 3,
-        AddressSpace::Storage { access: _ } => 4,
+        AddressSpace::Storage { .. } => 4,
         AddressSpace::Handle => 5,
         AddressSpace::PushConstant => 6,
     }
@@ -87,13 +90,8 @@ pub fn space_access(space: AddressSpace) -> u8
     ensures { result ≡ space_access space }
 {
     match space {
-        AddressSpace::Function => 0,
-        AddressSpace::Private => 0,
-        AddressSpace::WorkGroup => 0,
-        AddressSpace::Uniform => 0,
         AddressSpace::Storage { access } => access,
-        AddressSpace::Handle => 0,
-        AddressSpace::PushConstant => 0,
+        _ => 0,
     }
 }
 
@@ -109,6 +107,7 @@ pub fn dimension_of(d: u8) -> ImageDimension
 }
 
 // The two bytes behind the class are kind and multi, 0 and multi, or format and access.
+#[tactic(auto, unfolding(definition::specs::Tests::class_fits))]
 pub fn class_of(class: u8, x: u8, y: u8) -> ImageClass
     ensures { class_fits class x y ≡ true → (class_number result ≡ class) × ((class_first result ≡ x) × (class_second result ≡ y)) }
 {

@@ -1,6 +1,6 @@
 pub mod Digits
-pub mod Reading
 pub mod Lines
+pub mod Reading
 pub mod Laws
 pub mod ReadBack
 pub mod LineEach

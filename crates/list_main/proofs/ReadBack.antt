@@ -4,7 +4,7 @@ use Prim.Native.Nat.{ℕ, zero, suc, ◌+◌, ◌*◌, ◌-◌, ◌/◌, ◌%◌
 use mathlib.Core.Path.{◌≡◌, refl, sym, ap, ◌∙◌}
 use mathlib.Core.Bool.{Bool, true, false, ◌&&◌}
 use mathlib.Core.List.{List, [], ◌∷◌, ◌++◌, append_assoc}
-use mathlib.Core.Option.{some}
+use Rattle.std.specs.Prelude.{Some}
 use native.Mathlib.Nat.{pow-suc, mul_assoc, div-add-mod', mod-lt}
 use native.Mathlib.Omega.{arith}
 use lib.Dec.{leb, ltb, eqb}
@@ -80,7 +80,7 @@ both : (s t : Bool) → s && t ≡ true → (s ≡ true) × (t ≡ true)
 both true t e = (refl, e)
 both false t e = let z : ◌≡◌ {A = ℕ} 0 1 = cc in let f : ⊥ = omega arith in elim f [ ]
 
-text_back : (ws : List ℕ) → every is_word ws ≡ true → text_words (lines_of ws) ≡ some ws
+text_back : (ws : List ℕ) → every is_word ws ≡ true → text_words (lines_of ws) ≡ Some ws
 unfolding text_from lines_of
 text_back [] h = refl
 text_back (w ∷ ws) h =
@@ -113,5 +113,5 @@ text_first (w ∷ ws) =
 
 -- ---- words of 32 bits, no more than the program holds, are read back
 
-pub read_back : (ws : List ℕ) → every is_word ws ≡ true → length ws ≤ words_most → words_of (lines_of ws) ≡ some ws
+pub read_back : (ws : List ℕ) → every is_word ws ≡ true → length ws ≤ words_most → words_of (lines_of ws) ≡ Some ws
 read_back ws h l = simp (text_first ws, text_back ws h, le-leb (length ws) words_most l)

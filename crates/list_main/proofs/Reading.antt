@@ -1,42 +1,27 @@
--- The loops that read words: what was read already, before what the rest is read as, is the whole. A turn moves one word, or one
--- digit of a word, from the second to the first; at the end nothing is left, and a byte that does not fit leaves no reading.
+-- A line read digit by digit, and words read piece by piece: what was read already, before what the rest is read as, is the whole.
+-- A byte that does not fit leaves no reading.
 use Prim.Native.Nat.{ℕ, suc, ◌+◌, ◌*◌, ◌-◌, ◌^◌, ◌≤◌, ◌<◌}
 use mathlib.Core.Path.{◌≡◌, refl, sym, ap, ◌∙◌, subst}
 use mathlib.Core.List.{List, [], ◌∷◌, ◌++◌, append_assoc, append-nil}
-use mathlib.Core.Option.{Option, some, none}
-use native.Mathlib.Nat.{pow-suc, mul_assoc, mul_comm, le_trans, pow-le-pow_right, mul-le-mul_right, le-mul_of_pos_right}
+use Rattle.std.specs.Prelude.{Option, Some, None}
+use native.Mathlib.Nat.{pow-suc, mul_assoc, mul_comm, le_trans, pow-le-pow_right, mul-le-mul_right, mul-le-mul_left, le-mul_of_pos_right}
 use native.Mathlib.Numerals.{add-one}
 use native.Mathlib.Omega.{arith}
-use lib.ListN.{length, get_or, take, drop, set, length-drop, drop_of_length-le}
-use lib.Seq.{drop-cons, take-suc-set}
-use borrow.Author.Tests.{lt-ltb, le-ltb, eq-eqb, ne_eqb}
+use lib.ListN.{length, get_or, drop, take, take-append-drop, set, length-set, length-drop, drop_of_length-le}
+use lib.Dec.{leb}
+use mathlib.Core.Bool.{Bool, true, false}
+use Rattle.definition.specs.Choice.{pick}
+use Rattle.list_main.specs.Words.{both, OfCount}
+use lib.Seq.{drop-cons, take-suc-set, length-take-le}
+use Rattle.std.specs.Char.{digit_value}
+use borrow.Author.Tests.{le-leb, leb-true, lt-ltb, le-ltb, eq-eqb, ne_eqb}
 use Rattle.printing.specs.Text.{newline}
-use Rattle.list_main.specs.declared.Words.TheVariants.{Read, Unread}
-use Rattle.list_main.specs.Words.{WordsRead}
-use Rattle.list_main.specs.Answers.{before, digit_in, text_from, text_words, low_first, binary_words}
+use Rattle.list_main.specs.Answers.{at_most, before, digit_in, text_from, text_words}
+use Rattle.list_main.proofs.Digits.{meant}
 
--- ---- words before words
-
-before_before : (xs ys : List ℕ) (o : Option (List ℕ)) → before xs (before ys o) ≡ before (xs ++ ys) o
-before_before xs ys none = refl
-before_before xs ys (some zs) = ap some (sym (append_assoc xs ys zs))
-
-before_nothing : (o : Option (List ℕ)) → before [] o ≡ o
-before_nothing none = refl
-before_nothing (some zs) = refl
-
--- a word is stored behind those that stand in the buffer
-stored : (b : List ℕ) (n w : ℕ) (o : Option (List ℕ)) → n < length b → before (take (n + 1) (set b n w)) o ≡ before (take n b) (before (w ∷ []) o)
-stored b n w o h =
-    let e : take (n + 1) (set b n w) ≡ take n b ++ (w ∷ []) = ap (λ (k : ℕ). take k (set b n w)) (add-one n) ∙ take-suc-set b n w h in
-    ap (λ (l : List ℕ). before l o) e ∙ sym (before_before (take n b) (w ∷ []) o)
-
--- nothing is left
-all_read : (b : List ℕ) (n : ℕ) (whole : Option (List ℕ)) → n ≤ length b → before (take n b) (some []) ≡ whole → WordsRead whole (Read n) b
-all_read b n whole h e = record { same = ap some (sym (append-nil (take n b))) ∙ e; within = h }
-
-first_left : (s : List ℕ) (i : ℕ) → i < length s → drop i s ≡ get_or s i 0 ∷ drop (i + 1) s
-first_left s i h = rw (add-one, drop-cons s i 0)
+none_left : (l : List ℕ) → length l ≡ 0 → l ≡ []
+none_left [] e = refl
+none_left (w ∷ ws) e = absurd (omega arith)
 
 -- ---- one byte of a line
 
@@ -44,7 +29,7 @@ line_ends : (k w b : ℕ) (bs : List ℕ) → k ≡ 0 → b ≡ newline → text
 unfolding text_from
 line_ends k w b bs z e = ap (λ (j : ℕ). text_from j w (b ∷ bs)) z ∙ simp (eq-eqb b newline e)
 
-line_goes_on : (k w b : ℕ) (bs : List ℕ) → k ≡ 0 → (b ≡ newline → ⊥) → text_from k w (b ∷ bs) ≡ none
+line_goes_on : (k w b : ℕ) (bs : List ℕ) → k ≡ 0 → (b ≡ newline → ⊥) → text_from k w (b ∷ bs) ≡ None
 unfolding text_from
 line_goes_on k w b bs z ne = ap (λ (j : ℕ). text_from j w (b ∷ bs)) z ∙ simp (ne_eqb b newline ne)
 
@@ -59,15 +44,15 @@ module _ (k w b d : ℕ) (bs : List ℕ) (p : 0 < k) (e : d ≡ digit_in b) wher
       ∙ (simp (lt-ltb (digit_in b) 16 (subst (λ (x : ℕ). x < 16) e h)))
       ∙ ap (λ (x : ℕ). text_from (k - 1) (w * 16 + x) bs) (sym e)
 
-  other_byte : 16 ≤ d → text_from k w (b ∷ bs) ≡ none
+  other_byte : 16 ≤ d → text_from k w (b ∷ bs) ≡ None
   unfolding text_from
   other_byte h = one_left ∙ simp (le-ltb (digit_in b) 16 (subst (λ (x : ℕ). 16 ≤ x) e h))
 
-text_ends : (k w : ℕ) → k ≡ 8 → text_from k w [] ≡ some []
+text_ends : (k w : ℕ) → k ≡ 8 → text_from k w [] ≡ Some []
 unfolding text_from
 text_ends k w e = simp (eq-eqb k 8 e)
 
-text_breaks_off : (k w : ℕ) → (k ≡ 8 → ⊥) → text_from k w [] ≡ none
+text_breaks_off : (k w : ℕ) → (k ≡ 8 → ⊥) → text_from k w [] ≡ None
 unfolding text_from
 text_breaks_off k w ne = simp (ne_eqb k 8 ne)
 
@@ -91,126 +76,142 @@ fits_word w k f =
     let l : w + 1 ≤ (w + 1) * 16 ^ k = le-mul_of_pos_right (w + 1) p in
     omega (arith, le_trans l f)
 
--- ---- the loop over the bytes of a text
+-- ---- a line
 
--- n words stand in the buffer, and of the line that is begun k digits are to come behind those that make w
-pub record TextBegun (s b : List ℕ) (n k w i : ℕ) : Type 0 where
-  pub within : i ≤ length s
-  pub few : k ≤ 8
-  pub place : 9 * n + 8 ≡ i + k
-  pub fits : Fits w k
-  pub whole : before (take n b) (text_from k w (drop i s)) ≡ text_words s
+-- i digits of the line make w
+pub record Begun (line : List ℕ) (w i : ℕ) : Type 0 where
+  pub fits : Fits w (8 - i)
+  pub whole : text_from (8 - i) w (drop i line) ≡ text_words line
 
-pub text_start : (s b : List ℕ) → TextBegun s b 0 8 0 0
-text_start s b = record { within = omega arith; few = omega arith; place = omega arith; fits = omega arith; whole = before_nothing (text_words s) }
+first_left : (s : List ℕ) (i : ℕ) → i < length s → drop i s ≡ get_or s i 0 ∷ drop (i + 1) s
+first_left s i h = rw (add-one, drop-cons s i 0)
 
-module _ (s b : List ℕ) (n k w i : ℕ) (g : TextBegun s b n k w i) where
-  -- the bytes end with a line
-  pub text_read : length s ≤ i → k ≡ 8 → n ≤ length b → WordsRead (text_words s) (Read n) b
-  text_read h e room =
-      all_read b n (text_words s) room
-      (ap (before (take n b)) (sym (ap (text_from k w) (drop_of_length-le s h) ∙ text_ends k w e)) ∙ g.whole)
+module _ (line : List ℕ) (w i : ℕ) (g : Begun line w i) (n : length line ≡ 9) where
+  module _ (h : i < 8) (b : ℕ) (at : b ≡ get_or line i 0) where
+    here : text_from (8 - i) w (b ∷ drop (i + 1) line) ≡ text_words line
+    here =
+        ap (λ (x : ℕ). text_from (8 - i) w (x ∷ drop (i + 1) line)) at
+        ∙ ap (text_from (8 - i) w) (sym (first_left line i (omega arith)))
+        ∙ g.whole
 
-  -- or within one
-  pub text_cut : length s ≤ i → (k ≡ 8 → ⊥) → WordsRead (text_words s) Unread b
-  text_cut h ne =
-      let e = ap (before (take n b)) (sym (ap (text_from k w) (drop_of_length-le s h) ∙ text_breaks_off k w ne)) ∙ g.whole in
-      record { same = e; within = tt }
+    pub line_more : (d : ℕ) → digit_value b < 16 → d ≡ digit_value b → Begun line (w * 16 + d) (i + 1)
+    line_more d l e =
+        let f : d ≡ digit_in b = e ∙ (meant b).digit l in
+        let k : 8 - i - 1 ≡ 8 - (i + 1) = omega arith in
+        let m : d < 16 = omega arith in
+        record {
+          fits = subst (Fits (w * 16 + d)) k (one_more w d (8 - i) (omega arith) m g.fits);
+          whole =
+              ap (λ (j : ℕ). text_from j (w * 16 + d) (drop (i + 1) line)) (sym k)
+              ∙ sym (a_digit (8 - i) w b d (drop (i + 1) line) (omega arith) f m)
+              ∙ here;
+        }
 
-  module _ (h : i < length s) where
-    here : before (take n b) (text_from k w (get_or s i 0 ∷ drop (i + 1) s)) ≡ text_words s
-    here = ap (λ (l : List ℕ). before (take n b) (text_from k w l)) (sym (first_left s i h)) ∙ g.whole
+    pub line_fits : (d : ℕ) → digit_value b < 16 → d ≡ digit_value b → w * 16 + d < 4294967296
+    line_fits d l e = let m : d < 16 = omega arith in fits_word (w * 16 + d) (8 - i - 1) (one_more w d (8 - i) (omega arith) m g.fits)
 
-    -- a line is closed
-    pub next_line : k ≡ 0 → get_or s i 0 ≡ newline → n < length b → TextBegun s (set b n w) (n + 1) 8 0 (i + 1)
-    next_line z e room = record {
-      within = omega arith;
-      few = omega arith;
-      place = omega (arith, g.place);
-      fits = omega arith;
-      whole =
-          stored b n w (text_from 8 0 (drop (i + 1) s)) room
-          ∙ ap (before (take n b)) (sym (line_ends k w (get_or s i 0) (drop (i + 1) s) z e))
-          ∙ here;
-    }
+    pub line_breaks : (digit_value b < 16 → ⊥) → None ≡ text_words line
+    line_breaks l = sym (other_byte (8 - i) w b (digit_in b) (drop (i + 1) line) (omega arith) refl ((meant b).other (omega arith))) ∙ here
 
-    -- or is longer than eight digits
-    pub no_line : k ≡ 0 → (get_or s i 0 ≡ newline → ⊥) → WordsRead (text_words s) Unread b
-    no_line z ne =
-        let e = ap (before (take n b)) (sym (line_goes_on k w (get_or s i 0) (drop (i + 1) s) z ne)) ∙ here in
-        record { same = e; within = tt }
+  module _ (h : i ≡ 8) where
+    last : text_from 0 w (get_or line 8 0 ∷ []) ≡ text_words line
+    last =
+        let k : 0 ≡ 8 - i = omega arith in
+        ap (λ (j : ℕ). text_from j w (get_or line 8 0 ∷ [])) k
+        ∙ ap (text_from (8 - i) w) (sym (ap (λ (j : ℕ). drop j line) h ∙ first_left line 8 (omega arith) ∙ ap (λ (l : List ℕ). get_or line 8 0 ∷ l) (drop_of_length-le line {i = 9} (omega arith))))
+        ∙ g.whole
 
-    module _ (d : ℕ) (p : 0 < k) (e : d ≡ digit_in (get_or s i 0)) where
-      pub next_digit : d < 16 → TextBegun s b n (k - 1) (w * 16 + d) (i + 1)
-      next_digit l = record {
-        within = omega arith;
-        few = omega (arith, g.few);
-        place = omega (arith, g.place);
-        fits = one_more w d k p l g.fits;
-        whole = ap (before (take n b)) (sym (a_digit k w (get_or s i 0) d (drop (i + 1) s) p e l)) ∙ here;
-      }
+    pub line_end : get_or line 8 0 ≡ newline → Some (w ∷ []) ≡ text_words line
+    unfolding text_from
+    line_end e = sym (line_ends 0 w (get_or line 8 0) [] refl e) ∙ last
 
-      pub digit_fits : d < 16 → w * 16 + d < 4294967296
-      digit_fits l = fits_word (w * 16 + d) (k - 1) (one_more w d k p l g.fits)
+    pub line_other_end : (get_or line 8 0 ≡ newline → ⊥) → None ≡ text_words line
+    line_other_end e = sym (line_goes_on 0 w (get_or line 8 0) [] refl e) ∙ last
 
-      pub no_digit : 16 ≤ d → WordsRead (text_words s) Unread b
-      no_digit l =
-          let q = ap (before (take n b)) (sym (other_byte k w (get_or s i 0) d (drop (i + 1) s) p e l)) ∙ here in
-          record { same = q; within = tt }
+-- ---- words of so many bytes each
 
--- ---- the loop over the words of a binary file
+before_before : (xs ys : List ℕ) (o : Option (List ℕ)) → before xs (before ys o) ≡ before (xs ++ ys) o
+before_before xs ys None = refl
+before_before xs ys (Some zs) = ap Some (sym (append_assoc xs ys zs))
 
-four : (s : List ℕ) (i : ℕ) → i + 4 ≤ length s
-    → drop i s ≡ get_or s i 0 ∷ (get_or s (i + 1) 0 ∷ (get_or s (i + 2) 0 ∷ (get_or s (i + 3) 0 ∷ drop (i + 4) s)))
-four s i h =
-    let a = first_left s i (omega arith) in
-    let b = first_left s (i + 1) (omega arith) in
-    let c = first_left s (i + 2) (omega arith) in
-    let d = first_left s (i + 3) (omega arith) in
-    let e1 : i + 1 + 1 ≡ i + 2 = omega arith in
-    let e2 : i + 2 + 1 ≡ i + 3 = omega arith in
-    let e3 : i + 3 + 1 ≡ i + 4 = omega arith in
-    rw (a, b, e1, c, e2, d, e3)
+before_nothing : (o : Option (List ℕ)) → before [] o ≡ o
+before_nothing None = refl
+before_nothing (Some zs) = refl
 
--- a word
-a_word : (s : List ℕ) (i w : ℕ) → i + 4 ≤ length s → w ≡ low_first (drop i s) → binary_words (drop i s) ≡ before (w ∷ []) (binary_words (drop (i + 4) s))
-unfolding binary_words
-a_word s i w h e = rw (e, four s i h)
+-- n words stand in the buffer, and the rest is to be read
+pub record PiecesRead (size : ℕ) (words : List ℕ → Option (List ℕ)) (s b : List ℕ) (n : ℕ) (rest : List ℕ) : Type 0 where
+  pub room : n ≤ length b
+  pub place : size * n + length rest ≡ length s
+  pub whole : before (take n b) (words rest) ≡ words s
 
--- fewer than four bytes
-no_word : (s : List ℕ) → 0 < length s → length s < 4 → binary_words s ≡ none
-unfolding binary_words
-no_word [] h l = let z : ⊥ = omega arith in elim z [ ]
-no_word (a ∷ []) h l = refl
-no_word (a ∷ (b ∷ [])) h l = refl
-no_word (a ∷ (b ∷ (c ∷ []))) h l = refl
-no_word (a ∷ (b ∷ (c ∷ (d ∷ bs)))) h l = let z : ⊥ = omega arith in elim z [ ]
+pub start : (size : ℕ) (words : List ℕ → Option (List ℕ)) (s b : List ℕ) → PiecesRead size words s b 0 s
+start size words s b = record { room = omega arith; place = omega arith; whole = before_nothing (words s) }
 
--- n words stand in the buffer
-pub record BinaryBegun (s b : List ℕ) (n i : ℕ) : Type 0 where
-  pub within : i ≤ length s
-  pub place : i ≡ 4 * n
-  pub whole : before (take n b) (binary_words (drop i s)) ≡ binary_words s
+module _ (size : ℕ) (words : List ℕ → Option (List ℕ)) (s b : List ℕ) (n : ℕ) (rest : List ℕ) (g : PiecesRead size words s b n rest) where
+  module _ (joined : (bytes later : List ℕ) → length bytes ≡ size → words (bytes ++ later) ≡ both (words bytes) (words later))
+      (bytes later : List ℕ) (front : bytes ≡ take size rest) (back : later ≡ drop size rest) (long : size ≤ length rest) where
+    piece-length : length bytes ≡ size
+    piece-length = ap length front ∙ length-take-le size rest long
 
-pub binary_start : (s b : List ℕ) → BinaryBegun s b 0 0
-binary_start s b = record { within = omega arith; place = refl; whole = before_nothing (binary_words s) }
+    cut : both (words bytes) (words later) ≡ words rest
+    cut =
+        sym (joined bytes later piece-length)
+        ∙ ap (λ (l : List ℕ). words (l ++ later)) front
+        ∙ ap (λ (l : List ℕ). words (take size rest ++ l)) back
+        ∙ ap words (take-append-drop size rest)
 
-module _ (s b : List ℕ) (n i : ℕ) (g : BinaryBegun s b n i) where
-  pub next_word : (w : ℕ) → i + 4 ≤ length s → w ≡ low_first (drop i s) → n < length b → BinaryBegun s (set b n w) (n + 1) (i + 4)
-  next_word w h e room = record {
-    within = h;
-    place = omega (arith, g.place);
-    whole = stored b n w (binary_words (drop (i + 4) s)) room ∙ ap (before (take n b)) (sym (a_word s i w h e)) ∙ g.whole;
-  }
+    -- a word is stored
+    pub piece_more : (w : ℕ) → Some (w ∷ []) ≡ words bytes → n < length b → PiecesRead size words s (set b n w) (n + 1) later
+    piece_more w e h =
+        let l : length rest ≡ size + length later = omega (arith, ap length back, length-drop size rest) in
+        let t : take (n + 1) (set b n w) ≡ take n b ++ (w ∷ []) = ap (λ (k : ℕ). take k (set b n w)) (add-one n) ∙ take-suc-set b n w h in
+        record {
+          room = omega (arith, length-set b n w);
+          place = omega (arith, g.place);
+          whole =
+              ap (λ (l : List ℕ). before l (words later)) t
+              ∙ sym (before_before (take n b) (w ∷ []) (words later))
+              ∙ ap (λ (o : Option (List ℕ)). before (take n b) (both o (words later))) e
+              ∙ ap (before (take n b)) cut
+              ∙ g.whole;
+        }
 
-  pub binary_read : i ≡ length s → n ≤ length b → WordsRead (binary_words s) (Read n) b
-  unfolding binary_words
-  binary_read e room =
-      let h : length s ≤ i = omega arith in
-      all_read b n (binary_words s) room
-      (ap (λ (l : List ℕ). before (take n b) (binary_words l)) (sym (drop_of_length-le s h)) ∙ g.whole)
+    -- bytes are no word
+    pub piece_breaks : None ≡ words bytes → None ≡ words s
+    piece_breaks e = ap (λ (o : Option (List ℕ)). before (take n b) (both o (words later))) e ∙ ap (before (take n b)) cut ∙ g.whole
 
-  pub binary_cut : i < length s → length s < i + 4 → WordsRead (binary_words s) Unread b
-  binary_cut h l =
-      let e = ap (before (take n b)) (sym (no_word (drop i s) (simp length-drop (omega arith)) (simp length-drop (omega arith)))) ∙ g.whole in
-      record { same = e; within = tt }
+  module _ (counted : (bytes : List ℕ) → OfCount (λ (k : ℕ). length bytes ≡ size * k) (words bytes)) where
+    -- there is a word more than the buffer takes
+    pub too_many : n ≡ length b → 0 < length rest → None ≡ at_most (length b) (words s)
+    too_many e h = by (words s) (counted s)
+      where
+        by : (o : Option (List ℕ)) → OfCount (λ (k : ℕ). length s ≡ size * k) o → None ≡ at_most (length b) o
+        by None k = refl
+        by (Some ws) k = by_count (leb (length ws) (length b)) refl
+          where
+            by_count : (t : Bool) → leb (length ws) (length b) ≡ t → None ≡ pick t (Some ws) None
+            by_count false f = refl
+            by_count true f =
+                let l : size * length ws ≤ size * length b = mul-le-mul_left size (leb-true (length ws) (length b) f) in
+                let m : size * n ≡ size * length b = ap (λ (j : ℕ). size * j) e in
+                absurd (omega (arith, g.place))
+
+    -- fewer bytes are left than a word has
+    pub piece_short : 0 < length rest → length rest < size → None ≡ words s
+    piece_short h l = ap (before (take n b)) (by (words rest) (counted rest)) ∙ g.whole
+      where
+        by : (o : Option (List ℕ)) → OfCount (λ (k : ℕ). length rest ≡ size * k) o → None ≡ o
+        by None k = refl
+        by (Some []) k = absurd (omega arith)
+        by (Some (w ∷ ws)) k =
+            let m : size * 1 ≤ size * length (w ∷ ws) = mul-le-mul_left size (omega arith) in
+            absurd (omega arith)
+
+  -- all bytes are read
+  pub all_read : words [] ≡ Some [] → length rest ≡ 0 → Some (take n b) ≡ at_most (length b) (words s)
+  all_read nothing e =
+      let w : Some (take n b) ≡ words s =
+      ap Some (sym (append-nil (take n b))) ∙ ap (before (take n b)) (sym nothing ∙ ap words (sym (none_left rest e))) ∙ g.whole in
+      let l : length (take n b) ≤ length b = omega (arith, length-take-le n b g.room, g.room) in
+      let k : Some (take n b) ≡ at_most (length b) (Some (take n b)) = simp (le-leb (length (take n b)) (length b) l) in
+      k ∙ ap (at_most (length b)) w

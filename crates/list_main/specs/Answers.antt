@@ -1,7 +1,7 @@
 -- What the program reads and what it prints. Document 02, paper 3: a module's words are listed, "first the five header words,
 -- then for each instruction its opcode, its result id (0 if none), the count of its other words and those words".
 use Rattle.std.specs.Prelude.{ℕ, zero, suc, ◌+◌, ◌*◌, ◌-◌, ◌≤◌, Bool, ◌&&◌, List, [], ◌∷◌, ◌++◌, eqb, leb, ltb, length, get_or, take, replicate}
-use Rattle.std.proofs.Math.Option.{Option, some, none}
+use Rattle.std.specs.Prelude.{Option, Some, None}
 use Rattle.definition.specs.Choice.{pick, within}
 use Rattle.definition.specs.Numbers.{MagicNumber}
 use Rattle.definition.specs.Listing.{Listing, Listed, Relisted, list}
@@ -11,8 +11,8 @@ use Rattle.printing.specs.Text.{newline, digits, refusal_of}
 
 -- words before those that are read from the rest, if that can be read
 abbrev pub before : List ℕ → Option (List ℕ) → Option (List ℕ)
-before ws none = none
-before ws (some later) = some (ws ++ later)
+before ws None = None
+before ws (Some later) = Some (ws ++ later)
 
 -- the number of a hexadecimal digit, and 16 of any other byte
 unfoldable pub digit_in : ℕ → ℕ
@@ -20,9 +20,9 @@ digit_in b = pick (within 48 57 b) (b - 48) (pick (within 97 102 b) (b - 97 + 10
 
 -- the words of lines of eight digits, where k digits of a line are to come behind those that make the number w
 unfoldable pub text_from : ℕ → ℕ → List ℕ → Option (List ℕ)
-text_from k w [] = pick (eqb k 8) (some []) none
-text_from zero w (b ∷ bs) = let later = text_from 8 0 bs in pick (eqb b newline) (before (w ∷ []) later) none
-text_from (suc k) w (b ∷ bs) = let later = text_from k (w * 16 + digit_in b) bs in pick (ltb (digit_in b) 16) later none
+text_from k w [] = pick (eqb k 8) (Some []) None
+text_from zero w (b ∷ bs) = let later = text_from 8 0 bs in pick (eqb b newline) (before (w ∷ []) later) None
+text_from (suc k) w (b ∷ bs) = let later = text_from k (w * 16 + digit_in b) bs in pick (ltb (digit_in b) 16) later None
 
 -- those of a text
 abbrev pub text_words : List ℕ → Option (List ℕ)
@@ -34,10 +34,10 @@ low_first bs = get_or bs 0 0 + 256 * get_or bs 1 0 + 65536 * (get_or bs 2 0 + 25
 
 -- the words of a binary file
 unfoldable pub binary_words : List ℕ → Option (List ℕ)
-binary_words [] = some []
-binary_words (a ∷ []) = none
-binary_words (a ∷ (b ∷ [])) = none
-binary_words (a ∷ (b ∷ (c ∷ []))) = none
+binary_words [] = Some []
+binary_words (a ∷ []) = None
+binary_words (a ∷ (b ∷ [])) = None
+binary_words (a ∷ (b ∷ (c ∷ []))) = None
 binary_words (a ∷ (b ∷ (c ∷ (d ∷ bs)))) = let later = binary_words bs in before (low_first (a ∷ b ∷ c ∷ d ∷ []) ∷ []) later
 
 -- a binary file begins with the magic number
@@ -50,8 +50,8 @@ words_most = 65536
 
 -- the words, if they are no more than so many
 abbrev pub at_most : ℕ → Option (List ℕ) → Option (List ℕ)
-at_most n none = none
-at_most n (some ws) = pick (leb (length ws) n) (some ws) none
+at_most n None = None
+at_most n (Some ws) = pick (leb (length ws) n) (Some ws) None
 
 -- the words of an input, which is binary or text
 abbrev pub words_of : List ℕ → Option (List ℕ)
@@ -108,8 +108,8 @@ unread_text =
     ∷ 32 ∷ 54 ∷ 53 ∷ 53 ∷ 51 ∷ 54 ∷ 32 ∷ 97 ∷ 116 ∷ 32 ∷ 109 ∷ 111 ∷ 115 ∷ 116 ∷ newline ∷ []
 
 abbrev pub answer_of : Option (List ℕ) → List ℕ
-answer_of none = unread_text
-answer_of (some ws) = list_answer ws
+answer_of None = unread_text
+answer_of (Some ws) = list_answer ws
 
 -- what is printed for an input
 abbrev pub answer_to : List ℕ → List ℕ

@@ -1,19 +1,13 @@
--- What a reader of words promises.
-use Rattle.std.specs.Prelude.{ℕ, ◌≤◌, List, ◌≡◌, length, take}
-use Rattle.std.proofs.Math.Option.{Option, some, none}
-use Rattle.list_main.specs.declared.Words.{Words}
-use Rattle.list_main.specs.declared.Words.TheVariants.{Read, Unread}
+-- Words that are read one after the other, and how many they are.
+use Rattle.std.specs.Prelude.{ℕ, List, length, Option, Some, None}
+use Rattle.list_main.specs.Answers.{before}
 
--- the words that an answer says were put at the front of a buffer
-abbrev pub words_in : Words → List ℕ → Option (List ℕ)
-words_in (Read n) b = some (take n b)
-words_in Unread b = none
+-- words and those behind them, if both can be read
+abbrev pub both : Option (List ℕ) → Option (List ℕ) → Option (List ℕ)
+both None later = None
+both (Some ws) later = before ws later
 
-abbrev pub CountWithin : Words → List ℕ → Type 0
-CountWithin (Read n) b = n ≤ length b
-CountWithin Unread b = Unit
-
--- the words that were to be read, and their count lies within the buffer
-pub record WordsRead (meant : Option (List ℕ)) (r : Words) (b : List ℕ) : Type 0 where
-  pub same : words_in r b ≡ meant
-  pub within : CountWithin r b
+-- P holds of how many words were read, if any
+abbrev pub OfCount : (ℕ → Type 0) → Option (List ℕ) → Type 0
+OfCount P None = Unit
+OfCount P (Some ws) = P (length ws)

@@ -2,17 +2,18 @@
 // list: the header on one line, then a line for each instruction; or the number by which the words are refused.
 #![tactic(auto)]
 
-ghost use Rattle.std.specs.Prelude.{◌≡◌, ◌+◌, ◌*◌, ◌<◌, ◌≤◌, length, drop};
+ghost use Rattle.std.specs.Prelude.{◌≡◌, ℕ, ◌+◌, ◌*◌, ◌^◌, ◌<◌, ◌≤◌, List, [], ◌∷◌, ◌++◌, length, Option, Some, option_map, option_copied};
 ghost use Rattle.std.proofs.lemmas.List.Edits.{sets};
 ghost use Rattle.printing.specs.Text.{Printed};
-ghost use Rattle.list_main.specs.Answers.{digit_in, low_first, text_words, binary_words, is_binary, words_of};
+ghost use Rattle.list_main.specs.Answers.{at_most, text_words, binary_words, is_binary, words_of};
 ghost use Rattle.list_main.specs.Answers.{following, ending, word_text, list_text};
 ghost use Rattle.list_main.specs.Answers.{printed, list_answer, unread_text, answer_to, ListWithin};
+ghost use Rattle.list_main.specs.Words.{both, OfCount};
+ghost use Rattle.list_main.specs.Forms.{text_joined, text_counted, binary_joined, binary_counted, text_nothing, binary_nothing};
 ghost use Rattle.listing.specs.Promise.{relisted_as};
-ghost use Rattle.list_main.specs.Words.{WordsRead};
 
-use listing::Listing;
 use printing::streams;
+use refusals::Refusal;
 
 // How many words the program holds.
 const WORDS: usize = 65536;
@@ -36,128 +37,119 @@ const DIGITS: usize = 8;
 
 const HEADER: usize = 5;
 
-// How many words the input was read as.
-#[derive(Clone, Copy)]
-enum Words {
-    Read(usize),
-    Unread,
+// A form in which words are written, so many bytes to a word, one word behind the other.
+trait Form<const BYTES: usize> {
+    // What bytes are read as, if they are words.
+    ghost words: { List ℕ → Option (List ℕ) };
+
+    fn word_of(&self, bytes: &[u8; BYTES]) -> Option<u32>
+        ensures { option_map (λ w. w ∷ []) result ≡ words bytes.now };
+
+    ghost nothing: { words [] ≡ Some [] };
+
+    ghost joined: { (bytes later : List ℕ) → length bytes ≡ BYTES → words (bytes ++ later) ≡ both (words bytes) (words later) };
+
+    ghost counted: { (bytes : List ℕ) → OfCount (λ n. length bytes ≡ BYTES * n) (words bytes) };
 }
 
-// The number of a hexadecimal digit, and 16 of any other byte.
-fn digit_of(b: u8) -> u32
-    ensures { result ≡ digit_in b }
-{
-    match b {
-        b'0'..=b'9' => (b - b'0') as u32,
-        b'a'..=b'f' => (b - b'a' + 10) as u32,
-        b'A'..=b'F' => (b - b'A' + 10) as u32,
-        _ => 16,
+// Lines of eight hexadecimal digits.
+struct Text;
+
+impl Form<9> for Text {
+    ghost words = { text_words };
+
+    ghost nothing = { text_nothing };
+
+    ghost joined = { text_joined };
+
+    ghost counted = { text_counted };
+
+    fn word_of(&self, line: &[u8; 9]) -> Option<u32> {
+        let mut word = 0;
+        for &digit in &line[..DIGITS] {
+            word = word * 16 + char::from(digit).to_digit(16)?;
+        }
+        if line[DIGITS] == NEWLINE {
+            Some(word)
+        } else {
+            None
+        }
     }
 }
 
-// Reads words from lines of eight digits. `left` digits of the line are to come behind those that make `word`.
-fn read_text(words: &mut [u32], input: &[u8]) -> Words
-    requires { length input.now ≤ 9 * length words.old }
-    ensures { WordsRead (text_words input.now) result words.new }
+// A file's four bytes for each word, the lowest first.
+struct Binary;
+
+impl Form<4> for Binary {
+    ghost words = { binary_words };
+
+    ghost nothing = { binary_nothing };
+
+    ghost joined = { binary_joined };
+
+    ghost counted = { binary_counted };
+
+    fn word_of(&self, bytes: &[u8; 4]) -> Option<u32> {
+        Some(u32::from_le_bytes(*bytes))
+    }
+}
+
+// Reads the words of a form, unless they are more than there is room for.
+fn read<'a, const BYTES: usize, F: Form<BYTES>>(
+    form: &F,
+    words: &'a mut [u32],
+    input: &[u8],
+) -> Option<&'a [u32]>
+    requires { (0 < BYTES) × (BYTES < 2 ^ 63) }
+    ensures { option_copied result ≡ at_most (length words.old) (F.words input.now) }
 {
     let mut n = 0;
-    let mut left = DIGITS;
-    let mut word: u32 = 0;
-    let mut i = 0;
-    while i < input.len() {
-        let b = input[i];
-        i += 1;
-        if left == 0 {
-            if b != NEWLINE {
-                return Words::Unread;
-            }
-            words[n] = word;
-            n += 1;
-            left = DIGITS;
-            word = 0;
-            continue;
+    let mut rest = input;
+    while let Some((bytes, later)) = rest.split_first_chunk::<BYTES>() {
+        if n == words.len() {
+            return None;
         }
-        let d = digit_of(b);
-        if d > 15 {
-            return Words::Unread;
-        }
-        word = word * 16 + d;
-        left -= 1;
-    }
-    if left == DIGITS {
-        return Words::Read(n);
-    }
-    Words::Unread
-}
-
-// The word whose four bytes stand at a place, the lowest first.
-fn low_first_at(input: &[u8], i: usize) -> u32
-    requires { i + 4 ≤ length input.now }
-    ensures { result ≡ low_first (drop i input.now) }
-{
-    let high = input[i + 2] as u32 + 256 * input[i + 3] as u32;
-    let low = input[i] as u32 + 256 * input[i + 1] as u32;
-    low + 65536 * high
-}
-
-// Reads words of four bytes each.
-fn read_binary(words: &mut [u32], input: &[u8]) -> Words
-    requires { length input.now ≤ 4 * length words.old }
-    ensures { WordsRead (binary_words input.now) result words.new }
-{
-    let mut n = 0;
-    let mut i = 0;
-    while input.len() - i >= 4 {
-        words[n] = low_first_at(input, i);
+        words[n] = form.word_of(bytes)?;
         n += 1;
-        i += 4;
+        rest = later;
     }
-    if i == input.len() {
-        return Words::Read(n);
+    if rest.is_empty() {
+        Some(&words[..n])
+    } else {
+        None
     }
-    Words::Unread
 }
 
 // Says whether the input begins with the bytes of the magic number, which no text does: they are no digits.
 fn is_binary(input: &[u8]) -> bool
     ensures { result ≡ is_binary input.now }
 {
-    if input.len() < 4 {
-        return false;
-    }
-    low_first_at(input, 0) == MAGIC
+    input
+        .first_chunk()
+        .is_some_and(|first| u32::from_le_bytes(*first) == MAGIC)
 }
 
 // Reads the input's words, unless they are more than there is room for.
-fn read_words(words: &mut [u32], input: &[u8]) -> Words
+fn read_words<'a>(words: &'a mut [u32], input: &[u8]) -> Option<&'a [u32]>
     requires { length words.old ≡ 65536 }
-    ensures { WordsRead (words_of input.now) result words.new }
+    ensures { option_copied result ≡ words_of input.now }
 {
     if is_binary(input) {
-        if input.len() > 4 * WORDS {
-            return Words::Unread;
-        }
-        return read_binary(words, input);
+        read(&Binary, words, input)
+    } else {
+        read(&Text, words, input)
     }
-    if input.len() > 9 * WORDS {
-        return Words::Unread;
-    }
-    read_text(words, input)
 }
 
-// How many words follow the one at a place on its line. Where none of a line was left it begins one, whose third word says how
+// How many words follow one on its line, if with it so many were left. Where none was it begins a line, whose third word says how
 // many follow that.
-fn following_at(list: &[u32], i: usize, left: usize) -> usize
-    requires { i < length list.now }
-    ensures { result ≡ following left (drop (i + 1) list.now) }
+fn following(left: usize, later: &[u32]) -> usize
+    ensures { result ≡ following left later.now }
 {
-    if left > 0 {
-        return left - 1;
+    match left.checked_sub(1) {
+        Some(follow) => follow,
+        None => 2 + later.get(1).map_or(0, |n| *n as usize),
     }
-    if list.len() - i < 3 {
-        return 2;
-    }
-    2 + list[i + 2] as usize
 }
 
 // What stands behind a word that so many follow on its line.
@@ -182,13 +174,11 @@ fn put_list(text: &mut [u8], list: &[u32]) -> usize
     ensures { Printed (list_text list.now) text.old text.new result }
 {
     let mut left = HEADER;
-    let mut i = 0;
-    while i < list.len() {
-        left = following_at(list, i, left);
+    for i in 0..list.len() {
+        left = following(left, &list[i + 1..]);
         put_word(text, 9 * i, list[i], left);
-        i += 1;
     }
-    9 * i
+    9 * list.len()
 }
 
 // Puts what is printed for an input that is no words at the front of the text.
@@ -200,13 +190,13 @@ fn put_unread(text: &mut [u8]) -> usize
 }
 
 // Puts the list that was made, or the refusal, at the front of the text.
-fn put_listing(text: &mut [u8], list: &[u32], a: Listing) -> usize
+fn put_listing(text: &mut [u8], list: &[u32], a: Result<usize, Refusal>) -> usize
     requires { ListWithin (relisted_as a list.now).answer list.now × (9 * length list.now ≤ length text.old) × (12 ≤ length text.old) }
     ensures { Printed (printed (relisted_as a list.now)) text.old text.new result }
 {
     match a {
-        Listing::Listed(n) => put_list(text, &list[..n]),
-        Listing::Refused(n) => printing::put_refusal(text, n),
+        Ok(n) => put_list(text, &list[..n]),
+        Err(refusal) => printing::put_refusal(text, refusal.number()),
     }
 }
 
@@ -225,10 +215,10 @@ fn put_answer_to(text: &mut [u8], input: &[u8]) -> usize
     requires { 1179648 ≤ length text.old }
     ensures { Printed (answer_to input.now) text.old text.new result }
 {
-    let mut words = [0u32; WORDS];
-    match read_words(&mut words, input) {
-        Words::Read(n) => put_list_of(text, &words[..n]),
-        Words::Unread => put_unread(text),
+    let mut lent = [0u32; WORDS];
+    match read_words(&mut lent, input) {
+        Some(words) => put_list_of(text, words),
+        None => put_unread(text),
     }
 }
 
@@ -240,9 +230,7 @@ fn print_answer_to(rt: &(impl Print + Eprint), input: &[u8]) {
 
 fn main(rt: HostRuntime) {
     let mut buffer = [0u8; INPUT];
-    let input = streams::read_input(&rt, &mut buffer);
-    let n = input.held;
-    if !input.failed {
-        print_answer_to(&rt, &buffer[..n]);
+    if let Some(input) = streams::read(&rt, &mut buffer) {
+        print_answer_to(&rt, input);
     }
 }

@@ -2,7 +2,7 @@
 -- (`faulty`), 16 (`too_short`), the list (`listed`).
 use Prim.Native.Nat.{ℕ, ◌+◌, ◌≤◌, ◌<◌}
 use mathlib.Core.Path.{◌≡◌, refl, sym, ap, ◌∙◌, subst}
-use mathlib.Core.Bool.{Bool, true, false}
+use mathlib.Core.Bool.{true, false}
 use mathlib.Core.Logic.{◌⊎◌, inl, inr}
 use mathlib.Core.List.{List, ◌++◌}
 use native.Mathlib.Omega.{arith}
@@ -10,19 +10,20 @@ use borrow.Author.Tests.{le-leb, lt-leb, leb-true}
 use lib.Dec.{leb}
 use lib.ListN.{length, take, drop, length-append}
 use lib.Seq.{take_at, length-take-le}
-use Rattle.definition.specs.Choice.{unless}
 use Rattle.definition.specs.Instructions.{put}
-use Rattle.definition.specs.Tests.{Judged, refused, fit, judge}
+use Rattle.definition.specs.Tests.{Judged, refused, fit}
 use Rattle.definition.specs.Listing.{Relisted, relisted_of, ahead, list_from, is_front, front_test, list_of, list, join, HasList, WholeList, Unlisted}
 use Rattle.definition.specs.Listing.{Listing as Meant}
-use Rattle.definition.proofs.Truth.{both, unless_zero}
+use Rattle.definition.proofs.Truth.{both}
 use Rattle.definition.proofs.Relisting.{joins, takes_written, list_answers}
 use Rattle.spirv.specs.Sections.{splice}
 use Rattle.spirv.proofs.Splices.{splice-length, splice-splice}
-use Rattle.listing.specs.declared.Listing.{Listing}
-use Rattle.listing.specs.declared.Listing.TheVariants.{Listed, Refused}
+use Rattle.std.specs.Prelude.{Result, Err}
+use Rattle.refusals.specs.declared.Refusal.{Refusal}
+use Rattle.refusals.specs.declared.Refusal.TheVariants.{BufferLength, ModuleFront}
+use Rattle.refusals.specs.Numbers.{number_of}
 use Rattle.listing.specs.Lists.{length_of, Walked}
-use Rattle.listing.specs.Promise.{relisted_as, ListPromise}
+use Rattle.listing.specs.Promise.{listing_as, relisted_as, ListPromise}
 
 -- ---- words put at a buffer's front
 
@@ -40,7 +41,7 @@ module _ (ws b : List ℕ) where
       rw (w.buffer, take_at w.whole (drop (length w.whole) b) n q) (joins ws w.whole w.lists)
   joined d n (inr u) e = let z : ◌≡◌ {A = ℕ} 0 1 = cc in absurd (omega arith)
 
-  pub promised : (r : Listing) (after : List ℕ) → relisted_as r after ≡ list ws b → ListPromise ws b r after
+  pub promised : (r : Result ℕ Refusal) (after : List ℕ) → relisted_as r after ≡ list ws b → ListPromise ws b r after
   promised r after e =
       let a = subst (λ (d : Relisted). WholeList ws b d ⊎ Unlisted b d) (sym e) (list_answers ws b) in
       record {
@@ -52,52 +53,47 @@ module _ (ws b : List ℕ) where
 
   -- ---- each answer
 
-  pub no_front : (r : ℕ) → r ≡ front_test ws → (r ≡ 0 → ⊥) → relisted_as (Refused 18) b ≡ list ws b
+  pub no_front : is_front ws ≡ false → relisted_as (Err ModuleFront) b ≡ list ws b
   unfolding list list_of front_test
-  no_front r e z = go (is_front ws) refl
-    where
-      go : (t : Bool) → is_front ws ≡ t → relisted_as (Refused 18) b ≡ relisted_of b (judge (unless (is_front ws) 18 0) (ahead (take 5 ws) (list_from 5 ws)))
-      go true f = absurd (z (e ∙ rw f))
-      go false f = rw f
+  no_front e = rw e
 
-  module _ (r : ℕ) (e : r ≡ front_test ws) (z : r ≡ 0) where
+  module _ (e : is_front ws ≡ true) where
     pub five_words : 5 ≤ length ws
-    unfolding front_test
-    five_words = leb-true 5 (length ws) (both (leb 5 (length ws)) _ (unless_zero (is_front ws) 17 0 (sym e ∙ z)).0).0
+    five_words = leb-true 5 (length ws) (both (leb 5 (length ws)) _ e).0
 
     passes : list ws b ≡ relisted_of b (ahead (take 5 ws) (list_from 5 ws))
-    unfolding list list_of
-    passes = rw (← e, z)
+    unfolding list list_of front_test
+    passes = rw e
 
     -- the definition's, by what the instructions come to
-    pub faulty : (n : ℕ) → Refused n ≡ length_of (list_from 5 ws) → relisted_as (Refused n) b ≡ list ws b
-    faulty n f = go (list_from 5 ws) refl f ∙ sym passes
+    pub faulty : (r : Refusal) → Meant.Refused (number_of r) ≡ length_of (list_from 5 ws) → relisted_as (Err r) b ≡ list ws b
+    faulty r f = go (list_from 5 ws) refl f ∙ sym passes
       where
-        go : (j : Judged (List ℕ)) → list_from 5 ws ≡ j → Refused n ≡ length_of j → relisted_as (Refused n) b ≡ relisted_of b (ahead (take 5 ws) (list_from 5 ws))
-        go (refused m) q f = let y : n ≡ m = cc in rw (q, y)
+        go : (j : Judged (List ℕ)) → list_from 5 ws ≡ j → Meant.Refused (number_of r) ≡ length_of j → relisted_as (Err r) b ≡ relisted_of b (ahead (take 5 ws) (list_from 5 ws))
+        go (refused m) q f = let y : number_of r ≡ m = cc in rw (q, y)
         go (fit l) q f = let y : ◌≡◌ {A = ℕ} 0 1 = cc in absurd (omega arith)
 
     head-length : (l : List ℕ) → length (take 5 ws ++ l) ≡ 5 + length l
     head-length l = simp (length-append, length-take-le 5 ws five_words)
 
-    pub too_short : (n : ℕ) → Listed n ≡ length_of (list_from 5 ws) → length b < n → relisted_as (Refused 16) b ≡ list ws b
+    pub too_short : (n : ℕ) → Meant.Listed n ≡ length_of (list_from 5 ws) → length b < n → relisted_as (Err BufferLength) b ≡ list ws b
     too_short n f h = go (list_from 5 ws) refl f ∙ sym passes
       where
-        go : (j : Judged (List ℕ)) → list_from 5 ws ≡ j → Listed n ≡ length_of j → relisted_as (Refused 16) b ≡ relisted_of b (ahead (take 5 ws) (list_from 5 ws))
+        go : (j : Judged (List ℕ)) → list_from 5 ws ≡ j → Meant.Listed n ≡ length_of j → relisted_as (Err BufferLength) b ≡ relisted_of b (ahead (take 5 ws) (list_from 5 ws))
         go (refused m) q f = let y : ◌≡◌ {A = ℕ} 0 1 = cc in absurd (omega arith)
         go (fit l) q f =
             let y : n ≡ 5 + length l = cc in
             rw (q, lt-leb (length (take 5 ws ++ l)) (length b) (omega (arith, head-length l)))
 
-    pub listed : (n : ℕ) → Listed n ≡ length_of (list_from 5 ws) → n ≤ length b → (r : Listing) (after : List ℕ) → Walked ws (put (take 5 ws) b) r after → relisted_as r after ≡ list ws b
+    pub listed : (n : ℕ) → Meant.Listed n ≡ length_of (list_from 5 ws) → n ≤ length b → (r : Result ℕ Refusal) (after : List ℕ) → Walked ws (put (take 5 ws) b) r after → relisted_as r after ≡ list ws b
     listed n f h r after w = go (list_from 5 ws) refl f ∙ sym passes
       where
-        go : (j : Judged (List ℕ)) → list_from 5 ws ≡ j → Listed n ≡ length_of j → relisted_as r after ≡ relisted_of b (ahead (take 5 ws) (list_from 5 ws))
+        go : (j : Judged (List ℕ)) → list_from 5 ws ≡ j → Meant.Listed n ≡ length_of j → relisted_as r after ≡ relisted_of b (ahead (take 5 ws) (list_from 5 ws))
         go (refused m) q f = let y : ◌≡◌ {A = ℕ} 0 1 = cc in absurd (omega arith)
         go (fit l) q f =
             let y : n ≡ 5 + length l = cc in
             let five = length-take-le 5 ws five_words in
-            let a : r ≡ Listed (length (take 5 ws ++ l)) = w.answer ∙ rw (q, head-length l) in
+            let a : listing_as r ≡ Meant.Listed (length (take 5 ws ++ l)) = w.answer ∙ rw (q, head-length l) in
             let p = put_front (take 5 ws) b (omega arith) in
             let k : length (put (take 5 ws) b) ≡ length b = ap length p ∙ splice-length b 0 (take 5 ws) (omega arith) in
             let s : after ≡ put (take 5 ws ++ l) b =

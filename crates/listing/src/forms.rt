@@ -1,204 +1,266 @@
 // Which opcodes Declare writes, and with how many words: tests 19 and 20 of one instruction.
 ghost use Rattle.std.specs.Prelude.{◌≡◌};
-ghost use Rattle.definition.specs.Choice.{unless, within, first};
-ghost use Rattle.listing.specs.Forms.{form_of, first_forms, WrittenBy, TestedBy, RefusedBy};
+ghost use Rattle.definition.specs.Choice.{unless, within};
+ghost use Rattle.refusals.specs.Numbers.{test_number};
+ghost use Rattle.listing.specs.Forms.{form_of, fits, id_words, TestedForm, Tested};
 
-// An opcode's form is one number: the fewest words of its instruction, so many times this;
-const WORDS: u8 = 16;
+use refusals::Refusal;
+use spirv::opcodes::Op;
 
-// whether it may have one word more, or any number more;
-pub const ONE_MORE: u8 = 4;
+// Where an instruction's result id stands behind its first word.
+#[derive(Clone, Copy)]
+pub enum ResultId {
+    Missing,
+    First,
+    BehindType,
+}
 
-const ANY_MORE: u8 = 8;
+impl ResultId {
+    // How many words it takes.
+    pub fn words(self) -> usize
+        ensures { result ≡ id_words self }
+    {
+        match self {
+            ResultId::Missing => 0,
+            ResultId::First | ResultId::BehindType => 1,
+        }
+    }
+}
 
-// and whether it has a result id, alone or behind a result type.
-pub const RESULT: u8 = 1;
+// What the instructions of an opcode have in common: the fewest and the most words, and where the result id stands.
+#[derive(Clone, Copy)]
+pub struct Form {
+    pub least: usize,
+    pub most: usize,
+    pub result: ResultId,
+}
 
-pub const TYPED_RESULT: u8 = 3;
+impl Form {
+    // Whether Declare writes one with so many words.
+    pub fn fits(self, n: usize) -> bool
+        ensures { result ≡ fits self n }
+    {
+        self.least <= n && n <= self.most
+    }
+}
 
-// An opcode that Declare does not write.
-const NONE: u8 = 0;
+const NAME: Form = Form {
+    least: 3,
+    most: usize::MAX,
+    result: ResultId::Missing,
+};
 
-// The forms of the opcodes up to OpMemberDecorate, by number. Whoever walks over a module makes this table once and lends it: as a
-// constant it would be made anew at every look, and a match would be a jump at every look, which the processor guesses wrong.
-pub const FORMS: [u8; 73] = [
-    NONE,
-    NONE,
-    NONE,
-    NONE,
-    NONE,
+const MEMBER_NAME: Form = Form { least: 4, ..NAME };
+
+const CAPABILITY: Form = Form {
+    least: 2,
+    most: 2,
+    result: ResultId::Missing,
+};
+
+const TYPE_OF_2: Form = Form {
+    least: 2,
+    most: 2,
+    result: ResultId::First,
+};
+
+const TYPE_OF_3: Form = Form {
+    least: 3,
+    most: 3,
+    ..TYPE_OF_2
+};
+
+const TYPE_OF_4: Form = Form {
+    least: 4,
+    most: 4,
+    ..TYPE_OF_2
+};
+
+const TYPE_IMAGE: Form = Form {
+    least: 9,
+    most: 9,
+    ..TYPE_OF_2
+};
+
+const TYPE_STRUCT: Form = Form {
+    most: usize::MAX,
+    ..TYPE_OF_2
+};
+
+const TYPE_FUNCTION: Form = Form {
+    least: 3,
+    ..TYPE_STRUCT
+};
+
+const VALUE: Form = Form {
+    least: 3,
+    most: 3,
+    result: ResultId::BehindType,
+};
+
+const CONSTANT: Form = Form {
+    least: 4,
+    most: 5,
+    ..VALUE
+};
+
+const COMPOSITE: Form = Form {
+    most: usize::MAX,
+    ..VALUE
+};
+
+const DECORATE: Form = Form {
+    least: 3,
+    most: 4,
+    result: ResultId::Missing,
+};
+
+const MEMBER_DECORATE: Form = Form {
+    least: 4,
+    most: 5,
+    ..DECORATE
+};
+
+// The forms of the opcodes up to OpMemberDecorate, by number; nothing where Declare does not write the opcode. A match would be a
+// jump at every look, which the processor guesses wrong.
+static FORMS: [Option<Form>; 73] = [
+    None,
+    None,
+    None,
+    None,
+    None,
     // 5 OpName
-    3 * WORDS + ANY_MORE,
+    Some(NAME),
     // 6 OpMemberName
-    4 * WORDS + ANY_MORE,
-    NONE,
-    NONE,
-    NONE,
-    NONE,
-    NONE,
-    NONE,
-    NONE,
-    NONE,
-    NONE,
-    NONE,
+    Some(MEMBER_NAME),
+    None,
+    None,
+    None,
+    None,
+    None,
+    None,
+    None,
+    None,
+    None,
+    None,
     // 17 OpCapability
-    2 * WORDS,
-    NONE,
+    Some(CAPABILITY),
+    None,
     // 19 OpTypeVoid
-    2 * WORDS + RESULT,
+    Some(TYPE_OF_2),
     // 20 OpTypeBool
-    2 * WORDS + RESULT,
+    Some(TYPE_OF_2),
     // 21 OpTypeInt
-    4 * WORDS + RESULT,
+    Some(TYPE_OF_4),
     // 22 OpTypeFloat
-    3 * WORDS + RESULT,
+    Some(TYPE_OF_3),
     // 23 OpTypeVector
-    4 * WORDS + RESULT,
+    Some(TYPE_OF_4),
     // 24 OpTypeMatrix
-    4 * WORDS + RESULT,
+    Some(TYPE_OF_4),
     // 25 OpTypeImage
-    9 * WORDS + RESULT,
+    Some(TYPE_IMAGE),
     // 26 OpTypeSampler
-    2 * WORDS + RESULT,
-    NONE,
+    Some(TYPE_OF_2),
+    None,
     // 28 OpTypeArray
-    4 * WORDS + RESULT,
+    Some(TYPE_OF_4),
     // 29 OpTypeRuntimeArray
-    3 * WORDS + RESULT,
+    Some(TYPE_OF_3),
     // 30 OpTypeStruct
-    2 * WORDS + ANY_MORE + RESULT,
-    NONE,
+    Some(TYPE_STRUCT),
+    None,
     // 32 OpTypePointer
-    4 * WORDS + RESULT,
+    Some(TYPE_OF_4),
     // 33 OpTypeFunction
-    3 * WORDS + ANY_MORE + RESULT,
-    NONE,
-    NONE,
-    NONE,
-    NONE,
-    NONE,
-    NONE,
-    NONE,
+    Some(TYPE_FUNCTION),
+    None,
+    None,
+    None,
+    None,
+    None,
+    None,
+    None,
     // 41 OpConstantTrue
-    3 * WORDS + TYPED_RESULT,
+    Some(VALUE),
     // 42 OpConstantFalse
-    3 * WORDS + TYPED_RESULT,
+    Some(VALUE),
     // 43 OpConstant
-    4 * WORDS + ONE_MORE + TYPED_RESULT,
+    Some(CONSTANT),
     // 44 OpConstantComposite
-    3 * WORDS + ANY_MORE + TYPED_RESULT,
-    NONE,
+    Some(COMPOSITE),
+    None,
     // 46 OpConstantNull
-    3 * WORDS + TYPED_RESULT,
-    NONE,
-    NONE,
-    NONE,
-    NONE,
-    NONE,
-    NONE,
-    NONE,
-    NONE,
-    NONE,
-    NONE,
-    NONE,
-    NONE,
+    Some(VALUE),
+    None,
+    None,
+    None,
+    None,
+    None,
+    None,
+    None,
+    None,
+    None,
+    None,
+    None,
+    None,
     // 59 OpVariable
-    4 * WORDS + ONE_MORE + TYPED_RESULT,
-    NONE,
-    NONE,
-    NONE,
-    NONE,
-    NONE,
-    NONE,
-    NONE,
-    NONE,
-    NONE,
-    NONE,
-    NONE,
+    Some(CONSTANT),
+    None,
+    None,
+    None,
+    None,
+    None,
+    None,
+    None,
+    None,
+    None,
+    None,
+    None,
     // 71 OpDecorate
-    3 * WORDS + ONE_MORE,
+    Some(DECORATE),
     // 72 OpMemberDecorate
-    4 * WORDS + ONE_MORE,
+    Some(MEMBER_DECORATE),
 ];
 
-const OP_TYPE_RAY_QUERY_KHR: u32 = 4472;
-
-const OP_TYPE_ACCELERATION_STRUCTURE_KHR: u32 = 5341;
-
 // The form of an opcode; of those past the table Declare writes two, each with its result id alone.
-pub fn form_of(forms: &[u8], op: u32) -> u8
-    requires { forms.now ≡ first_forms }
+pub fn form_of(op: u32) -> Option<Form>
     ensures { result ≡ form_of op }
 {
     let i = op as usize;
-    if i < forms.len() {
-        return forms[i];
+    if i < FORMS.len() {
+        return FORMS[i];
     }
-    if op == OP_TYPE_RAY_QUERY_KHR {
-        return 2 * WORDS + RESULT;
+    if op == Op::TypeRayQueryKhr as u32 || op == Op::TypeAccelerationStructureKhr as u32 {
+        return Some(TYPE_OF_2);
     }
-    if op == OP_TYPE_ACCELERATION_STRUCTURE_KHR {
-        return 2 * WORDS + RESULT;
-    }
-    NONE
+    None
 }
 
-// Whether Declare writes an opcode of this form with so many words.
-fn is_written(form: u8, n: usize) -> bool
-    ensures { WrittenBy form n result }
+// Test 19: an instruction has a word at least, and no more than are left.
+fn end_test(n: usize, left: usize) -> Result<(), Refusal>
+    ensures { test_number result ≡ unless (within 1 left n) 19 0 }
 {
-    if form == NONE {
-        return false;
+    if n == 0 || left < n {
+        return Err(Refusal::InstructionLength);
     }
-    let least = (form / WORDS) as usize;
-    if n < least {
-        return false;
-    }
-    match form / ONE_MORE % 4 {
-        0 => n == least,
-        1 => n <= least + 1,
-        _ => true,
+    Ok(())
+}
+
+// Test 20: Declare writes the opcode, and with so many words.
+fn form_test(op: u32, n: usize) -> Result<Form, Refusal>
+    ensures { TestedForm op n result }
+{
+    match form_of(op) {
+        Some(form) if form.fits(n) => Ok(form),
+        _ => Err(Refusal::InstructionForm),
     }
 }
 
-// Test 19: an instruction has a word at least, and no more than are left; 0 where it is passed.
-fn end_test(n: usize, left: usize) -> u8
-    ensures { result ≡ unless (within 1 left n) 19 0 }
+// Test 19, then 20, of an instruction of n words, where so many words are left.
+pub fn instruction_test(op: u32, n: usize, left: usize) -> Result<Form, Refusal>
+    ensures { Tested op n left result }
 {
-    if n == 0 {
-        return 19;
-    }
-    if left < n {
-        return 19;
-    }
-    0
-}
-
-// Test 20: Declare writes an opcode of this form, and with so many words.
-fn form_test(form: u8, n: usize) -> u8
-    ensures { TestedBy form n result }
-{
-    if is_written(form, n) {
-        return 0;
-    }
-    20
-}
-
-// The first refusal of two; 0 is none.
-fn first_refusal(here: u8, later: u8) -> u8
-    ensures { result ≡ first here later }
-{
-    if here == 0 {
-        return later;
-    }
-    here
-}
-
-// Test 19, then 20, of an instruction of n words, by its opcode's form, where so many words are left.
-pub fn instruction_test(form: u8, n: usize, left: usize) -> u8
-    ensures { RefusedBy form n left result }
-{
-    let by_end = end_test(n, left);
-    let by_form = form_test(form, n);
-    first_refusal(by_end, by_form)
+    end_test(n, left)?;
+    form_test(op, n)
 }

@@ -2,8 +2,7 @@
 use Rattle.std.specs.Prelude.{ℕ}
 use Rattle.std.specs.Float.Ieee.{to_bits}
 use Rattle.std.specs.Float.{binary32, binary64}
-use Rattle.std.specs.Int.{w32}
-use mir.Val.{of_z, bool_byte}
+use Rattle.std.specs.Int.{w32, cast_unsigned, from_bool}
 use Rattle.definition.specs.Literals as Defined
 use Rattle.definition.specs.Literals.{f64, f32, u32, i32, boolean}
 use Rattle.literals.specs.declared.Literal.{Literal}
@@ -16,8 +15,8 @@ literal_of (F32 x) = f32 (to_bits binary32 x)
 literal_of (Nan64 n) = f64 n
 literal_of (Nan32 n) = f32 n
 literal_of (U32 n) = u32 n
-literal_of (I32 x) = i32 (of_z w32 x)
-literal_of (Bool b) = boolean (bool_byte b)
+literal_of (I32 x) = i32 (cast_unsigned w32 x)
+literal_of (Bool b) = boolean (from_bool b)
 
 -- the form byte: 0 F64, 1 F32, 2 U32, 3 I32, 4 Bool
 abbrev pub literal_form : Defined.Literal → ℕ

@@ -2,179 +2,74 @@
 // Aggregates have none. No id is given here, and no table looked at.
 #![tactic(auto)]
 
-ghost use Rattle.std.specs.Prelude.{◌≡◌, List, ℕ};
-ghost use Rattle.definition.specs.Shapes.{storage_class, dim_of, image_of, shape_of as defined_shape, count_of as definedCount};
+ghost use Rattle.std.specs.Prelude.{◌≡◌, List, ℕ, option_map};
+ghost use Rattle.definition.specs.Shapes.{storage_class, image_of, format_at, shape_of as defined_shape, count_of as definedCount};
 ghost use Rattle.kinds.specs.Numbers.{flag_number, space_number, dimension_number, class_number, class_first, class_second};
 ghost use Rattle.entries.specs.Types.{inner_of};
-ghost use Rattle.lookup.specs.Local.{vector_count};
-ghost use Rattle.locals.specs.Made.{made_of, format_code, image_shape};
+ghost use Rattle.lookup.specs.Local.{vector_count, local_shape};
+ghost use Rattle.locals.specs.Made.{described, image_shape};
 
 use entries::types::TypeInner;
 use kinds::{AddressSpace, ImageClass, ImageDimension, ScalarKind};
-use lookup::{LocalImageType, LocalType, PointerSpace, VectorSize};
+use lookup::{LocalImageType, LocalType};
 use spirv::helpers::map_storage_class;
+use spirv::images::{Dim, ImageFormat};
 
-// `Option<LocalType>`: an aggregate is declared under its entry alone.
-#[derive(Clone, Copy)]
-pub enum MaybeLocal {
-    Local(LocalType),
-    Aggregate,
-}
-
-const DIM_1D: u8 = 0;
-
-const DIM_2D: u8 = 1;
-
-const DIM_3D: u8 = 2;
-
-const DIM_CUBE: u8 = 3;
-
-const IMAGE_FORMAT_UNKNOWN: u8 = 0;
-
-const IMAGE_FORMAT_RGBA32F: u8 = 1;
-
-const IMAGE_FORMAT_RGBA16F: u8 = 2;
-
-const IMAGE_FORMAT_R32F: u8 = 3;
-
-const IMAGE_FORMAT_RGBA8: u8 = 4;
-
-const IMAGE_FORMAT_RGBA8SNORM: u8 = 5;
-
-const IMAGE_FORMAT_RG32F: u8 = 6;
-
-const IMAGE_FORMAT_RG16F: u8 = 7;
-
-const IMAGE_FORMAT_R11FG11FB10F: u8 = 8;
-
-const IMAGE_FORMAT_R16F: u8 = 9;
-
-const IMAGE_FORMAT_RGBA16: u8 = 10;
-
-const IMAGE_FORMAT_RGB10A2: u8 = 11;
-
-const IMAGE_FORMAT_RG16: u8 = 12;
-
-const IMAGE_FORMAT_RG8: u8 = 13;
-
-const IMAGE_FORMAT_R16: u8 = 14;
-
-const IMAGE_FORMAT_R8: u8 = 15;
-
-const IMAGE_FORMAT_RGBA16SNORM: u8 = 16;
-
-const IMAGE_FORMAT_RG16SNORM: u8 = 17;
-
-const IMAGE_FORMAT_RG8SNORM: u8 = 18;
-
-const IMAGE_FORMAT_R16SNORM: u8 = 19;
-
-const IMAGE_FORMAT_R8SNORM: u8 = 20;
-
-const IMAGE_FORMAT_RGBA32I: u8 = 21;
-
-const IMAGE_FORMAT_RGBA16I: u8 = 22;
-
-const IMAGE_FORMAT_RGBA8I: u8 = 23;
-
-const IMAGE_FORMAT_R32I: u8 = 24;
-
-const IMAGE_FORMAT_RG32I: u8 = 25;
-
-const IMAGE_FORMAT_RG16I: u8 = 26;
-
-const IMAGE_FORMAT_RG8I: u8 = 27;
-
-const IMAGE_FORMAT_R16I: u8 = 28;
-
-const IMAGE_FORMAT_R8I: u8 = 29;
-
-const IMAGE_FORMAT_RGBA32UI: u8 = 30;
-
-const IMAGE_FORMAT_RGBA16UI: u8 = 31;
-
-const IMAGE_FORMAT_RGBA8UI: u8 = 32;
-
-const IMAGE_FORMAT_R32UI: u8 = 33;
-
-const IMAGE_FORMAT_RGB10A2UI: u8 = 34;
-
-const IMAGE_FORMAT_RG32UI: u8 = 35;
-
-const IMAGE_FORMAT_RG16UI: u8 = 36;
-
-const IMAGE_FORMAT_RG8UI: u8 = 37;
-
-const IMAGE_FORMAT_R16UI: u8 = 38;
-
-const IMAGE_FORMAT_R8UI: u8 = 39;
-
-// OpTypeImage's operand Sampled.
-const WITH_SAMPLER: u8 = 1;
-
-const WITHOUT_SAMPLER: u8 = 2;
-
-// ScalarKind's numbers.
-const SINT: u8 = 0;
-
-const UINT: u8 = 1;
-
-const FLOAT: u8 = 2;
-
-// Of each storage format, 4 times the Specification's number for it plus the number of its kind: what the Rust's `From` for
-// `ImageFormat` and `ScalarKind` say, in one table. Whole, it is proved to be the definition's list of formats.
-const FORMATS: [u8; 40] = [
-    4 * IMAGE_FORMAT_R8 + FLOAT,
-    4 * IMAGE_FORMAT_R8SNORM + FLOAT,
-    4 * IMAGE_FORMAT_R8UI + UINT,
-    4 * IMAGE_FORMAT_R8I + SINT,
-    4 * IMAGE_FORMAT_R16UI + UINT,
-    4 * IMAGE_FORMAT_R16I + SINT,
-    4 * IMAGE_FORMAT_R16F + FLOAT,
-    4 * IMAGE_FORMAT_RG8 + FLOAT,
-    4 * IMAGE_FORMAT_RG8SNORM + FLOAT,
-    4 * IMAGE_FORMAT_RG8UI + UINT,
-    4 * IMAGE_FORMAT_RG8I + SINT,
-    4 * IMAGE_FORMAT_R32UI + UINT,
-    4 * IMAGE_FORMAT_R32I + SINT,
-    4 * IMAGE_FORMAT_R32F + FLOAT,
-    4 * IMAGE_FORMAT_RG16UI + UINT,
-    4 * IMAGE_FORMAT_RG16I + SINT,
-    4 * IMAGE_FORMAT_RG16F + FLOAT,
-    4 * IMAGE_FORMAT_RGBA8 + FLOAT,
-    4 * IMAGE_FORMAT_RGBA8SNORM + FLOAT,
-    4 * IMAGE_FORMAT_RGBA8UI + UINT,
-    4 * IMAGE_FORMAT_RGBA8I + SINT,
-    4 * IMAGE_FORMAT_UNKNOWN + FLOAT,
-    4 * IMAGE_FORMAT_RGB10A2UI + UINT,
-    4 * IMAGE_FORMAT_RGB10A2 + FLOAT,
-    4 * IMAGE_FORMAT_R11FG11FB10F + FLOAT,
-    4 * IMAGE_FORMAT_RG32UI + UINT,
-    4 * IMAGE_FORMAT_RG32I + SINT,
-    4 * IMAGE_FORMAT_RG32F + FLOAT,
-    4 * IMAGE_FORMAT_RGBA16UI + UINT,
-    4 * IMAGE_FORMAT_RGBA16I + SINT,
-    4 * IMAGE_FORMAT_RGBA16F + FLOAT,
-    4 * IMAGE_FORMAT_RGBA32UI + UINT,
-    4 * IMAGE_FORMAT_RGBA32I + SINT,
-    4 * IMAGE_FORMAT_RGBA32F + FLOAT,
-    4 * IMAGE_FORMAT_R16 + FLOAT,
-    4 * IMAGE_FORMAT_R16SNORM + FLOAT,
-    4 * IMAGE_FORMAT_RG16 + FLOAT,
-    4 * IMAGE_FORMAT_RG16SNORM + FLOAT,
-    4 * IMAGE_FORMAT_RGBA16 + FLOAT,
-    4 * IMAGE_FORMAT_RGBA16SNORM + FLOAT,
+// Of each storage format, by its number in a sheet, the Specification's format and the kind of its scalars: what the Rust's `From`
+// for `ImageFormat` and `ScalarKind` say, in one table. Whole, it is proved to be the definition's list of formats. A `static` is read
+// where it lies.
+static FORMATS: [(ImageFormat, ScalarKind); 40] = [
+    (ImageFormat::R8, ScalarKind::Float),
+    (ImageFormat::R8Snorm, ScalarKind::Float),
+    (ImageFormat::R8ui, ScalarKind::Uint),
+    (ImageFormat::R8i, ScalarKind::Sint),
+    (ImageFormat::R16ui, ScalarKind::Uint),
+    (ImageFormat::R16i, ScalarKind::Sint),
+    (ImageFormat::R16f, ScalarKind::Float),
+    (ImageFormat::Rg8, ScalarKind::Float),
+    (ImageFormat::Rg8Snorm, ScalarKind::Float),
+    (ImageFormat::Rg8ui, ScalarKind::Uint),
+    (ImageFormat::Rg8i, ScalarKind::Sint),
+    (ImageFormat::R32ui, ScalarKind::Uint),
+    (ImageFormat::R32i, ScalarKind::Sint),
+    (ImageFormat::R32f, ScalarKind::Float),
+    (ImageFormat::Rg16ui, ScalarKind::Uint),
+    (ImageFormat::Rg16i, ScalarKind::Sint),
+    (ImageFormat::Rg16f, ScalarKind::Float),
+    (ImageFormat::Rgba8, ScalarKind::Float),
+    (ImageFormat::Rgba8Snorm, ScalarKind::Float),
+    (ImageFormat::Rgba8ui, ScalarKind::Uint),
+    (ImageFormat::Rgba8i, ScalarKind::Sint),
+    (ImageFormat::Unknown, ScalarKind::Float),
+    (ImageFormat::Rgb10a2ui, ScalarKind::Uint),
+    (ImageFormat::Rgb10A2, ScalarKind::Float),
+    (ImageFormat::R11fG11fB10f, ScalarKind::Float),
+    (ImageFormat::Rg32ui, ScalarKind::Uint),
+    (ImageFormat::Rg32i, ScalarKind::Sint),
+    (ImageFormat::Rg32f, ScalarKind::Float),
+    (ImageFormat::Rgba16ui, ScalarKind::Uint),
+    (ImageFormat::Rgba16i, ScalarKind::Sint),
+    (ImageFormat::Rgba16f, ScalarKind::Float),
+    (ImageFormat::Rgba32ui, ScalarKind::Uint),
+    (ImageFormat::Rgba32i, ScalarKind::Sint),
+    (ImageFormat::Rgba32f, ScalarKind::Float),
+    (ImageFormat::R16, ScalarKind::Float),
+    (ImageFormat::R16Snorm, ScalarKind::Float),
+    (ImageFormat::Rg16, ScalarKind::Float),
+    (ImageFormat::Rg16Snorm, ScalarKind::Float),
+    (ImageFormat::Rgba16, ScalarKind::Float),
+    (ImageFormat::Rgba16Snorm, ScalarKind::Float),
 ];
 
 // A number past the table reads as Unknown, of floats; test 10 refuses such a sheet.
-fn format_code(f: u8) -> u8
-    ensures { result ≡ format_code f }
+#[tactic(auto, using(crate::proofs::Formats::format_is, crate::proofs::Formats::past_end))]
+fn storage_format(f: u8) -> (ImageFormat, ScalarKind)
+    ensures { described result ≡ format_at f }
 {
-    let i = f as usize;
-    if i < FORMATS.len() {
-        return FORMATS[i];
+    match FORMATS.get(f as usize) {
+        Some(&row) => row,
+        None => (ImageFormat::Unknown, ScalarKind::Float),
     }
-    2
 }
 
 // The storage class, which is small, as the byte that a shape keeps.
@@ -184,110 +79,83 @@ fn class_byte(space: AddressSpace) -> u8
     map_storage_class(space) as u8
 }
 
-// `spirv::Dim::from`.
-fn dim_byte(d: ImageDimension) -> u8
-    ensures { result ≡ dim_of (dimension_number d) }
-{
-    match d {
-        ImageDimension::D1 => DIM_1D,
-        ImageDimension::D2 => DIM_2D,
-        ImageDimension::D3 => DIM_3D,
-        ImageDimension::Cube => DIM_CUBE,
-    }
-}
-
-fn flag_byte(b: bool) -> u8
-    ensures { result ≡ flag_number b }
-{
-    if b {
-        return 1;
-    }
-    0
-}
-
 // A value pointer's size byte: 0 is a scalar's.
-fn vector_size(n: u8) -> VectorSize
+fn vector_size(n: u8) -> Option<u8>
     ensures { vector_count result ≡ definedCount n }
 {
-    if n == 0 {
-        return VectorSize::Nothing;
-    }
-    VectorSize::Of(n)
+    if n == 0 { None } else { Some(n) }
 }
 
 // `LocalImageType::from_inner`.
+#[tactic(auto, unfolding(definition::specs::Shapes::image_of, definition::specs::Shapes::kind_of))]
 fn image_type(dim: ImageDimension, arrayed: bool, class: ImageClass) -> LocalImageType
     ensures { image_shape result ≡ image_of (dimension_number dim) (flag_number arrayed) (class_number class) (class_first class) (class_second class) }
 {
-    let d = dim_byte(dim);
-    let a = flag_byte(arrayed);
+    let dim = Dim::from(dim);
     match class {
         ImageClass::Sampled { kind, multi } => LocalImageType {
             kind,
-            dim: d,
-            depth: 0,
-            arrayed: a,
-            multi: flag_byte(multi),
-            sampled: WITH_SAMPLER,
-            format: IMAGE_FORMAT_UNKNOWN,
+            dim,
+            depth: false,
+            arrayed,
+            multi,
+            sampled: true,
+            format: ImageFormat::Unknown,
         },
         ImageClass::Depth { multi } => LocalImageType {
             kind: ScalarKind::Float,
-            dim: d,
-            depth: 1,
-            arrayed: a,
-            multi: flag_byte(multi),
-            sampled: WITH_SAMPLER,
-            format: IMAGE_FORMAT_UNKNOWN,
+            dim,
+            depth: true,
+            arrayed,
+            multi,
+            sampled: true,
+            format: ImageFormat::Unknown,
         },
-        ImageClass::Storage { format, access: _ } => {
-            let c = format_code(format);
+        ImageClass::Storage { format, .. } => {
+            let (format, kind) = storage_format(format);
             LocalImageType {
-                kind: kinds::kind_of(c % 4),
-                dim: d,
-                depth: 0,
-                arrayed: a,
-                multi: 0,
-                sampled: WITHOUT_SAMPLER,
-                format: c / 4,
+                kind,
+                dim,
+                depth: false,
+                arrayed,
+                multi: false,
+                sampled: false,
+                format,
             }
         }
     }
 }
 
-// Whatever the body is that the type was read from: a struct's members stand there, and no shape has any.
-pub fn make_local(inner: TypeInner) -> MaybeLocal
-    ensures { (b : List ℕ) (n : ℕ) → made_of result ≡ defined_shape (inner_of b n inner) }
+// None of an aggregate, which is declared under its entry alone. The answer is the same whatever the body is that the type was read
+// from: a struct's members stand there, and no shape has any.
+pub fn make_local(inner: TypeInner) -> Option<LocalType>
+    ensures { (b : List ℕ) (n : ℕ) → option_map local_shape result ≡ defined_shape (inner_of b n inner) }
 {
     match inner {
-        TypeInner::Scalar { kind, width } => MaybeLocal::Local(LocalType::Value {
-            vector_size: VectorSize::Nothing,
+        TypeInner::Scalar { kind, width } | TypeInner::Atomic { kind, width } => {
+            Some(LocalType::Value {
+                vector_size: None,
+                kind,
+                width,
+                pointer_space: None,
+            })
+        }
+        TypeInner::Vector { size, kind, width } => Some(LocalType::Value {
+            vector_size: Some(size),
             kind,
             width,
-            pointer_space: PointerSpace::Nothing,
-        }),
-        TypeInner::Vector { size, kind, width } => MaybeLocal::Local(LocalType::Value {
-            vector_size: VectorSize::Of(size),
-            kind,
-            width,
-            pointer_space: PointerSpace::Nothing,
+            pointer_space: None,
         }),
         TypeInner::Matrix {
             columns,
             rows,
             width,
-        } => MaybeLocal::Local(LocalType::Matrix {
+        } => Some(LocalType::Matrix {
             columns,
             rows,
             width,
         }),
-        TypeInner::Atomic { kind, width } => MaybeLocal::Local(LocalType::Value {
-            vector_size: VectorSize::Nothing,
-            kind,
-            width,
-            pointer_space: PointerSpace::Nothing,
-        }),
-        TypeInner::Pointer { base, space } => MaybeLocal::Local(LocalType::Pointer {
+        TypeInner::Pointer { base, space } => Some(LocalType::Pointer {
             base,
             class: class_byte(space),
         }),
@@ -296,30 +164,20 @@ pub fn make_local(inner: TypeInner) -> MaybeLocal
             kind,
             width,
             space,
-        } => {
-            let z = vector_size(size);
-            let c = class_byte(space);
-            MaybeLocal::Local(LocalType::Value {
-                vector_size: z,
-                kind,
-                width,
-                pointer_space: PointerSpace::Of(c),
-            })
-        }
-        TypeInner::Array {
-            base: _,
-            size: _,
-            stride: _,
-        } => MaybeLocal::Aggregate,
-        TypeInner::Struct { span: _, count: _ } => MaybeLocal::Aggregate,
+        } => Some(LocalType::Value {
+            vector_size: vector_size(size),
+            kind,
+            width,
+            pointer_space: Some(class_byte(space)),
+        }),
         TypeInner::Image {
             dim,
             arrayed,
             class,
-        } => MaybeLocal::Local(LocalType::Image(image_type(dim, arrayed, class))),
-        TypeInner::Sampler { comparison: _ } => MaybeLocal::Local(LocalType::Sampler),
-        TypeInner::AccelerationStructure => MaybeLocal::Local(LocalType::AccelerationStructure),
-        TypeInner::RayQuery => MaybeLocal::Local(LocalType::RayQuery),
-        TypeInner::BindingArray { base: _, size: _ } => MaybeLocal::Aggregate,
+        } => Some(LocalType::Image(image_type(dim, arrayed, class))),
+        TypeInner::Sampler { comparison: _ } => Some(LocalType::Sampler),
+        TypeInner::AccelerationStructure => Some(LocalType::AccelerationStructure),
+        TypeInner::RayQuery => Some(LocalType::RayQuery),
+        TypeInner::Array { .. } | TypeInner::Struct { .. } | TypeInner::BindingArray { .. } => None,
     }
 }

@@ -2,62 +2,59 @@
 // writer asks of a shape: the type and the length that its instruction names, its capabilities, and the instruction itself.
 //
 // The Rust keeps a hash table by shape. Here every shape packs into one `u64`, no two into the same (proofs/Injective.antt), so
-// that the table is searched by number. Arms are written out where a `_` would do: each is proved at its own shape.
+// that the table is searched by number.
 #![tactic(auto)]
 
-ghost use Rattle.std.specs.Prelude.{◌≡◌, ◌++◌, ◌<◌};
-ghost use Rattle.definition.specs.Shapes.{kind_of, float, inner, sized, type_of, scalar, entry};
+ghost use Rattle.std.specs.Prelude.{◌≡◌, ◌++◌, ◌<◌, None, option_map};
+ghost use Rattle.definition.specs.Shapes.{kind_of, inner, sized, type_of, scalar, entry, shape};
 ghost use Rattle.definition.specs.Finding.{kind_capabilities, format_capabilities, dim_capabilities, capabilities_of};
 ghost use Rattle.definition.specs.Instructions.{words};
 ghost use Rattle.spirv.specs.Put.{Put};
-ghost use Rattle.kinds.specs.Numbers.{kind_number};
-ghost use Rattle.lookup.specs.Local.{local_shape, key_of, value_key, SmallValue, inner_key, length_of, as_list, integer_capabilities};
+ghost use Rattle.spirv.specs.Images.{dim_number, format_number};
+ghost use Rattle.kinds.specs.Numbers.{kind_number, flag_number};
+ghost use Rattle.lookup.specs.Local.{local_shape, value_of, key_of, value_key, SmallValue, capability_number, as_list, sampled_number};
 ghost use Rattle.lookup.specs.Packed.{code, bytes_key, base_key, packed_shape, packed_key, Bytes, SmallBase, SmallShape, Small};
 
 use kinds::{AddressSpace, ScalarKind, space_access, space_number};
 use spirv::helpers::map_storage_class;
+use spirv::images::{Dim, ImageFormat};
 use spirv::instructions::{
     type_acceleration_structure, type_array, type_bool, type_float, type_image, type_int,
     type_matrix, type_pointer, type_ray_query, type_sampler, type_vector,
 };
-
-// `Option<VectorSize>`, the size of a `LocalType::Value`: nothing of a scalar, or that of a vector, as a number. The Rust's Bi, Tri
-// and Quad would not do: a shape is told for every sheet, also where test 10 refuses the size.
-#[derive(Clone, Copy)]
-pub enum VectorSize {
-    Nothing,
-    Of(u8),
-}
-
-// `Option<spirv::StorageClass>`, where the value that a `LocalType::Value` points to lies; nothing if it is the value itself.
-#[derive(Clone, Copy)]
-pub enum PointerSpace {
-    Nothing,
-    Of(u8),
-}
+use spirv::words::Word;
 
 // `LocalImageType`: every operand of OpTypeImage under its own name, where the Rust has four of them as flags. The sampled type
 // is a scalar of this kind and of width 4.
 #[derive(Clone, Copy)]
 pub struct LocalImageType {
     pub kind: ScalarKind,
-    pub dim: u8,
-    pub depth: u8,
-    pub arrayed: u8,
-    pub multi: u8,
-    pub sampled: u8,
-    pub format: u8,
+    pub dim: Dim,
+    pub depth: bool,
+    pub arrayed: bool,
+    pub multi: bool,
+    pub sampled: bool,
+    pub format: ImageFormat,
+}
+
+// OpTypeImage's operand Sampled: 1 for an image that is used with a sampler, 2 for one that is not.
+fn sampled_number(sampled: bool) -> u8
+    ensures { result ≡ sampled_number sampled }
+{
+    if sampled { 1 } else { 2 }
 }
 
 // `LocalType`: the types that must be declared once, or that no entry of the sheet need have. Its `SampledImage` belongs to
-// expressions, which no sheet has. Classes are the Specification's storage classes, bases are indexes of entries.
+// expressions, which no sheet has. Classes are the Specification's storage classes, bases are indexes of entries. A value is a
+// vector of so many or a scalar; where it has a pointer space it is a pointer to either. Sizes are numbers: the Rust's Bi, Tri and
+// Quad would not do, since a shape is told for every sheet, also where test 10 refuses the size.
 #[derive(Clone, Copy)]
 pub enum LocalType {
     Value {
-        vector_size: VectorSize,
+        vector_size: Option<u8>,
         kind: ScalarKind,
         width: u8,
-        pointer_space: PointerSpace,
+        pointer_space: Option<u8>,
     },
     Matrix {
         columns: u8,
@@ -90,77 +87,49 @@ pub enum LookupType {
     Local(LocalType),
 }
 
-// The type that a shape's instruction names; in the Rust it is found inside `write_type_declaration_local`.
+// The capabilities that the rules give to a type, with the Specification's numbers.
 #[derive(Clone, Copy)]
-pub enum Inner {
-    Nothing,
-    Of(LookupType),
+pub enum Capability {
+    Float16 = 9,
+    Float64 = 10,
+    Int64 = 11,
+    Int16 = 22,
+    ImageCubeArray = 34,
+    Int8 = 39,
+    Sampled1D = 43,
+    Image1D = 44,
+    SampledCubeArray = 45,
+    StorageImageExtendedFormats = 49,
+    RayQueryKHR = 4472,
 }
 
-// The length that a shape's instruction names: only a binding array has one.
-#[derive(Clone, Copy)]
-pub enum Length {
-    Nothing,
-    Of(u32),
+impl Word for Capability {
+    ghost as_word = { capability_number };
+
+    fn word(self) -> u32 {
+        self as u32
+    }
 }
 
-// Capabilities, in order of use. 0 is none: it is Matrix's number, which no rule asks for.
+// Capabilities in order of use: a shape has two at most.
 #[derive(Clone, Copy)]
 pub struct Capabilities {
-    pub first: u32,
-    pub second: u32,
+    pub first: Option<Capability>,
+    pub second: Option<Capability>,
 }
 
-const DIM_1D: u8 = 0;
-
-const DIM_CUBE: u8 = 3;
-
-const IMAGE_FORMAT_RG32F: u8 = 6;
-
-const IMAGE_FORMAT_RGBA32I: u8 = 21;
-
-const IMAGE_FORMAT_RG32I: u8 = 25;
-
-const IMAGE_FORMAT_RGBA32UI: u8 = 30;
-
-const IMAGE_FORMAT_RGB10A2UI: u8 = 34;
-
-const IMAGE_FORMAT_R8UI: u8 = 39;
-
-const CAPABILITY_FLOAT16: u32 = 9;
-
-const CAPABILITY_FLOAT64: u32 = 10;
-
-const CAPABILITY_INT64: u32 = 11;
-
-const CAPABILITY_INT16: u32 = 22;
-
-pub const CAPABILITY_IMAGE_CUBE_ARRAY: u32 = 34;
-
-const CAPABILITY_INT8: u32 = 39;
-
-pub const CAPABILITY_SAMPLED_1D: u32 = 43;
-
-pub const CAPABILITY_IMAGE_1D: u32 = 44;
-
-pub const CAPABILITY_SAMPLED_CUBE_ARRAY: u32 = 45;
-
-pub const CAPABILITY_STORAGE_IMAGE_EXTENDED_FORMATS: u32 = 49;
-
-pub const CAPABILITY_RAY_QUERY_KHR: u32 = 4472;
-
 // OpTypeInt's operand Signedness.
-const UNSIGNED: u32 = 0;
-
-const SIGNED: u32 = 1;
-
-// OpTypeImage's operand Sampled, of an image that is used with a sampler.
-const WITH_SAMPLER: u8 = 1;
+#[derive(Clone, Copy)]
+enum Signedness {
+    Unsigned = 0,
+    Signed = 1,
+}
 
 // ---- a key as one number: a last digit that says which key it is, then the key's fields
 
 // Kind and width. A Bool has one width, so it carries none.
 
+#[tactic(auto, unfolding(definition::specs::Shapes::kind_of))]
 fn scalar_code(kind: ScalarKind, width: u8) -> u64
     ensures { (result ≡ code (kind_of (kind_number kind) width)) × (result < 1024) }
 {
@@ -196,19 +165,15 @@ fn base_key(tag: u64, base: u16, size: u32, space: u8, access: u8) -> u64
 }
 
 // The key of a scalar, a vector or a pointer to either; k is the scalar's code.
-fn value_key(size: VectorSize, k: u64, class: PointerSpace) -> u64
+fn value_key(size: Option<u8>, k: u64, class: Option<u8>) -> u64
     requires { k < 1024 }
     ensures { (result ≡ value_key size k class) × SmallValue size k class }
 {
-    match class {
-        PointerSpace::Nothing => match size {
-            VectorSize::Nothing => bytes_key(1, k, 0, 0, 0, 0, 0, 0),
-            VectorSize::Of(n) => bytes_key(2, k, n, 0, 0, 0, 0, 0),
-        },
-        PointerSpace::Of(c) => match size {
-            VectorSize::Nothing => bytes_key(5, k, c, 0, 0, 0, 0, 0),
-            VectorSize::Of(n) => bytes_key(6, k, c, n, 0, 0, 0, 0),
-        },
+    match (size, class) {
+        (None, None) => bytes_key(1, k, 0, 0, 0, 0, 0, 0),
+        (Some(n), None) => bytes_key(2, k, n, 0, 0, 0, 0, 0),
+        (None, Some(c)) => bytes_key(5, k, c, 0, 0, 0, 0, 0),
+        (Some(n), Some(c)) => bytes_key(6, k, c, n, 0, 0, 0, 0),
     }
 }
 
@@ -218,27 +183,27 @@ pub fn local_key(local: LocalType) -> u64
 {
     match local {
         LocalType::Value {
-            vector_size: size,
+            vector_size,
             kind,
             width,
-            pointer_space: class,
-        } => {
-            let k = scalar_code(kind, width);
-            value_key(size, k, class)
-        }
+            pointer_space,
+        } => value_key(vector_size, scalar_code(kind, width), pointer_space),
         LocalType::Matrix {
             columns,
             rows,
             width,
         } => bytes_key(3, 0, columns, rows, width, 0, 0, 0),
         LocalType::Pointer { base, class } => base_key(4, base, class as u32, 0, 0),
-        LocalType::Image(i) => {
-            let kind = i.kind;
-            let k = scalar_code(kind, 4);
-            bytes_key(
-                7, k, i.dim, i.depth, i.arrayed, i.multi, i.sampled, i.format,
-            )
-        }
+        LocalType::Image(i) => bytes_key(
+            7,
+            scalar_code(i.kind, 4),
+            i.dim.number() as u8,
+            i.depth as u8,
+            i.arrayed as u8,
+            i.multi as u8,
+            sampled_number(i.sampled),
+            i.format.number() as u8,
+        ),
         LocalType::Sampler => 8,
         LocalType::PointerToBindingArray { base, size, space } => {
             base_key(12, base, size, space_number(space), space_access(space))
@@ -268,189 +233,125 @@ pub fn key(ty: LookupType) -> u64
 
 // ---- what a shape's instruction names
 
+// A scalar, or a vector of so many.
+pub fn value_type(size: Option<u8>, kind: ScalarKind, width: u8) -> LookupType
+    ensures { key_of result ≡ shape (value_of size (kind_of (kind_number kind) width) None) }
+{
+    LookupType::Local(LocalType::Value {
+        vector_size: size,
+        kind,
+        width,
+        pointer_space: None,
+    })
+}
+
 // The type: a vector's scalar, a matrix's column, what a pointer points to, an image's sampled type, an array's base.
-pub fn inner_type(local: LocalType) -> Inner
-    ensures { inner_key result ≡ inner (local_shape local) }
+#[tactic(auto, unfolding(definition::specs::Shapes::kind_of))]
+pub fn inner_type(local: LocalType) -> Option<LookupType>
+    ensures { option_map key_of result ≡ inner (local_shape local) }
 {
     match local {
         LocalType::Value {
-            vector_size: size,
+            vector_size,
             kind,
             width,
-            pointer_space: class,
-        } => match class {
-            PointerSpace::Nothing => match size {
-                VectorSize::Nothing => Inner::Nothing,
-                VectorSize::Of(_) => Inner::Of(LookupType::Local(LocalType::Value {
-                    vector_size: VectorSize::Nothing,
-                    kind,
-                    width,
-                    pointer_space: PointerSpace::Nothing,
-                })),
-            },
-            PointerSpace::Of(_) => Inner::Of(LookupType::Local(LocalType::Value {
-                vector_size: size,
-                kind,
-                width,
-                pointer_space: PointerSpace::Nothing,
-            })),
+            pointer_space,
+        } => match (vector_size, pointer_space) {
+            (None, None) => None,
+            (Some(_), None) => Some(value_type(None, kind, width)),
+            (_, Some(_)) => Some(value_type(vector_size, kind, width)),
         },
-        LocalType::Matrix {
-            columns: _,
-            rows,
+        LocalType::Matrix { rows, width, .. } => Some(value_type(
+            Some(rows),
+            ScalarKind::Float,
             width,
-        } => {
-            Inner::Of(LookupType::Local(LocalType::Value {
-                vector_size: VectorSize::Of(rows),
-                kind: ScalarKind::Float,
-                width,
-                pointer_space: PointerSpace::Nothing,
-            }))
+        )),
+        LocalType::Image(i) => Some(value_type(None, i.kind, 4)),
+        LocalType::Pointer { base, .. } | LocalType::BindingArray { base, .. } => {
+            Some(LookupType::Handle(base))
         }
-        LocalType::Pointer { base, class: _ } => Inner::Of(LookupType::Handle(base)),
-        LocalType::Image(i) => {
-            let kind = i.kind;
-            Inner::Of(LookupType::Local(LocalType::Value {
-                vector_size: VectorSize::Nothing,
-                kind,
-                width: 4,
-                pointer_space: PointerSpace::Nothing,
-            }))
-        }
-        LocalType::Sampler => Inner::Nothing,
-        LocalType::PointerToBindingArray {
-            base,
-            size,
-            space: _,
-        } => Inner::Of(LookupType::Local(LocalType::BindingArray { base, size })),
-        LocalType::BindingArray { base, size: _ } => Inner::Of(LookupType::Handle(base)),
-        LocalType::AccelerationStructure => Inner::Nothing,
-        LocalType::RayQuery => Inner::Nothing,
+        LocalType::PointerToBindingArray { base, size, .. } => Some(LookupType::Local(
+            LocalType::BindingArray { base, size },
+        )),
+        LocalType::Sampler | LocalType::AccelerationStructure | LocalType::RayQuery => None,
     }
 }
 
-// The length, which is declared as a literal of its own.
-pub fn length_of(local: LocalType) -> Length
-    ensures { length_of result ≡ sized (local_shape local) }
+// The length, which is declared as a literal of its own: only a binding array has one.
+pub fn length_of(local: LocalType) -> Option<u32>
+    ensures { result ≡ sized (local_shape local) }
 {
     match local {
-        LocalType::Value {
-            vector_size: size,
-            kind: _,
-            width: _,
-            pointer_space: class,
-        } => match class {
-            PointerSpace::Nothing => match size {
-                VectorSize::Nothing => Length::Nothing,
-                VectorSize::Of(_) => Length::Nothing,
-            },
-            PointerSpace::Of(_) => Length::Nothing,
-        },
-        LocalType::Matrix {
-            columns: _,
-            rows: _,
-            width: _,
-        } => Length::Nothing,
-        LocalType::Pointer { base: _, class: _ } => Length::Nothing,
-        LocalType::Image(_) => Length::Nothing,
-        LocalType::Sampler => Length::Nothing,
-        LocalType::PointerToBindingArray {
-            base: _,
-            size: _,
-            space: _,
-        } => Length::Nothing,
-        LocalType::BindingArray { base: _, size } => Length::Of(size),
-        LocalType::AccelerationStructure => Length::Nothing,
-        LocalType::RayQuery => Length::Nothing,
+        LocalType::BindingArray { size, .. } => Some(size),
+        _ => None,
     }
 }
 
 // ---- the capabilities that a shape uses; widths are in bytes
 
-// What a scalar uses.
-fn kind_capability(kind: ScalarKind, width: u8) -> u32
+// What a scalar uses; the Rust asks for nothing at width 2.
+#[tactic(auto, unfolding(definition::specs::Finding::kind_capabilities, definition::specs::Shapes::kind_of))]
+fn kind_capability(kind: ScalarKind, width: u8) -> Option<Capability>
     ensures { as_list result ≡ kind_capabilities (kind_of (kind_number kind) width) }
 {
-    match kind {
-        ScalarKind::Sint => integer_capability(width),
-        ScalarKind::Uint => integer_capability(width),
-        ScalarKind::Float => float_capability(width),
-        ScalarKind::Bool => 0,
+    match (kind, width) {
+        (ScalarKind::Sint | ScalarKind::Uint, 1) => Some(Capability::Int8),
+        (ScalarKind::Sint | ScalarKind::Uint, 2) => Some(Capability::Int16),
+        (ScalarKind::Sint | ScalarKind::Uint, 8) => Some(Capability::Int64),
+        (ScalarKind::Float, 2) => Some(Capability::Float16),
+        (ScalarKind::Float, 8) => Some(Capability::Float64),
+        _ => None,
     }
 }
 
-// What a float uses; the Rust asks for nothing at width 2.
-fn float_capability(width: u8) -> u32
-    ensures { as_list result ≡ kind_capabilities (float width) }
+// `request_image_format_capabilities`
+#[tactic(auto, unfolding(definition::specs::Finding::format_capabilities))]
+fn format_capability(f: ImageFormat) -> Option<Capability>
+    ensures { as_list result ≡ format_capabilities (format_number f) }
 {
-    match width {
-        2 => CAPABILITY_FLOAT16,
-        8 => CAPABILITY_FLOAT64,
-        _ => 0,
+    match f {
+        ImageFormat::Rg32f
+        | ImageFormat::Rg16f
+        | ImageFormat::R11fG11fB10f
+        | ImageFormat::R16f
+        | ImageFormat::Rgba16
+        | ImageFormat::Rgb10A2
+        | ImageFormat::Rg16
+        | ImageFormat::Rg8
+        | ImageFormat::R16
+        | ImageFormat::R8
+        | ImageFormat::Rgba16Snorm
+        | ImageFormat::Rg16Snorm
+        | ImageFormat::Rg8Snorm
+        | ImageFormat::R16Snorm
+        | ImageFormat::R8Snorm
+        | ImageFormat::Rg32i
+        | ImageFormat::Rg16i
+        | ImageFormat::Rg8i
+        | ImageFormat::R16i
+        | ImageFormat::R8i
+        | ImageFormat::Rgb10a2ui
+        | ImageFormat::Rg32ui
+        | ImageFormat::Rg16ui
+        | ImageFormat::Rg8ui
+        | ImageFormat::R16ui
+        | ImageFormat::R8ui => Some(Capability::StorageImageExtendedFormats),
+        _ => None,
     }
 }
 
-// What an integer uses, signed or not.
-fn integer_capability(width: u8) -> u32
-    ensures { as_list result ≡ integer_capabilities width }
+// Of one dimension, or an arrayed cube; which it is depends on whether the image is used with a sampler.
+#[tactic(auto, unfolding(definition::specs::Finding::dim_capabilities))]
+fn dim_capability(d: Dim, arrayed: bool, sampled: bool) -> Option<Capability>
+    ensures { as_list result ≡ dim_capabilities (dim_number d) (flag_number arrayed) (sampled_number sampled) }
 {
-    if width == 1 {
-        return CAPABILITY_INT8;
+    match (d, arrayed, sampled) {
+        (Dim::Dim1D, _, true) => Some(Capability::Sampled1D),
+        (Dim::Dim1D, _, false) => Some(Capability::Image1D),
+        (Dim::DimCube, true, true) => Some(Capability::SampledCubeArray),
+        (Dim::DimCube, true, false) => Some(Capability::ImageCubeArray),
+        _ => None,
     }
-    if width == 2 {
-        return CAPABILITY_INT16;
-    }
-    if width == 8 {
-        return CAPABILITY_INT64;
-    }
-    0
-}
-
-// `request_image_format_capabilities`: the extended formats have the numbers of three ranges.
-fn format_capability(f: u8) -> u32
-    ensures { as_list result ≡ format_capabilities f }
-{
-    if f < IMAGE_FORMAT_RG32F {
-        return 0;
-    }
-    if f < IMAGE_FORMAT_RGBA32I {
-        return CAPABILITY_STORAGE_IMAGE_EXTENDED_FORMATS;
-    }
-    if f < IMAGE_FORMAT_RG32I {
-        return 0;
-    }
-    if f < IMAGE_FORMAT_RGBA32UI {
-        return CAPABILITY_STORAGE_IMAGE_EXTENDED_FORMATS;
-    }
-    if f < IMAGE_FORMAT_RGB10A2UI {
-        return 0;
-    }
-    if f <= IMAGE_FORMAT_R8UI {
-        return CAPABILITY_STORAGE_IMAGE_EXTENDED_FORMATS;
-    }
-    0
-}
-
-// Of one dimension, or an arrayed cube.
-fn dim_capability(d: u8, arrayed: u8, sampled: u8) -> u32
-    ensures { as_list result ≡ dim_capabilities d arrayed sampled }
-{
-    if d == DIM_1D {
-        if sampled == WITH_SAMPLER {
-            return CAPABILITY_SAMPLED_1D;
-        }
-        return CAPABILITY_IMAGE_1D;
-    }
-    if d != DIM_CUBE {
-        return 0;
-    }
-    if arrayed != 1 {
-        return 0;
-    }
-    if sampled == WITH_SAMPLER {
-        return CAPABILITY_SAMPLED_CUBE_ARRAY;
-    }
-    CAPABILITY_IMAGE_CUBE_ARRAY
 }
 
 // What a shape uses besides the types that it names.
@@ -459,65 +360,25 @@ pub fn capabilities_of(local: LocalType) -> Capabilities
 {
     match local {
         LocalType::Value {
-            vector_size: size,
+            vector_size: None,
             kind,
             width,
-            pointer_space: class,
-        } => match class {
-            PointerSpace::Nothing => match size {
-                VectorSize::Nothing => Capabilities {
-                    first: 0,
-                    second: kind_capability(kind, width),
-                },
-                VectorSize::Of(_) => Capabilities {
-                    first: 0,
-                    second: 0,
-                },
-            },
-            PointerSpace::Of(_) => Capabilities {
-                first: 0,
-                second: 0,
-            },
-        },
-        LocalType::Matrix {
-            columns: _,
-            rows: _,
-            width: _,
+            pointer_space: None,
         } => Capabilities {
-            first: 0,
-            second: 0,
-        },
-        LocalType::Pointer { base: _, class: _ } => Capabilities {
-            first: 0,
-            second: 0,
+            first: None,
+            second: kind_capability(kind, width),
         },
         LocalType::Image(i) => Capabilities {
             first: format_capability(i.format),
             second: dim_capability(i.dim, i.arrayed, i.sampled),
         },
-        LocalType::Sampler => Capabilities {
-            first: 0,
-            second: 0,
+        LocalType::AccelerationStructure | LocalType::RayQuery => Capabilities {
+            first: None,
+            second: Some(Capability::RayQueryKHR),
         },
-        LocalType::PointerToBindingArray {
-            base: _,
-            size: _,
-            space: _,
-        } => Capabilities {
-            first: 0,
-            second: 0,
-        },
-        LocalType::BindingArray { base: _, size: _ } => Capabilities {
-            first: 0,
-            second: 0,
-        },
-        LocalType::AccelerationStructure => Capabilities {
-            first: 0,
-            second: CAPABILITY_RAY_QUERY_KHR,
-        },
-        LocalType::RayQuery => Capabilities {
-            first: 0,
-            second: CAPABILITY_RAY_QUERY_KHR,
+        _ => Capabilities {
+            first: None,
+            second: None,
         },
     }
 }
@@ -525,13 +386,14 @@ pub fn capabilities_of(local: LocalType) -> Capabilities
 // ---- the instruction that declares a shape under an id: x is the id of the type that it names, y that of its length
 
 // OpTypeInt, OpTypeFloat or OpTypeBool, which take a width in bits.
+#[tactic(auto, unfolding(definition::specs::Shapes::kind_of))]
 fn put_scalar(sink: &mut [u32], kind: ScalarKind, width: u8, id: u32, x: u32, y: u32) -> usize
     ensures { Put (words (type_of (scalar (kind_of (kind_number kind) width)) id x y)) sink.old sink.new result }
 {
     let bits = 8 * (width as u32);
     match kind {
-        ScalarKind::Sint => type_int(sink, id, bits, SIGNED),
-        ScalarKind::Uint => type_int(sink, id, bits, UNSIGNED),
+        ScalarKind::Sint => type_int(sink, id, bits, Signedness::Signed as u32),
+        ScalarKind::Uint => type_int(sink, id, bits, Signedness::Unsigned as u32),
         ScalarKind::Float => type_float(sink, id, bits),
         ScalarKind::Bool => type_bool(sink, id),
     }
@@ -543,41 +405,38 @@ pub fn put_shape(sink: &mut [u32], local: LocalType, id: u32, x: u32, y: u32) ->
 {
     match local {
         LocalType::Value {
-            vector_size: size,
+            vector_size,
             kind,
             width,
-            pointer_space: class,
-        } => match class {
-            PointerSpace::Nothing => match size {
-                VectorSize::Nothing => put_scalar(sink, kind, width, id, x, y),
-                VectorSize::Of(n) => type_vector(sink, id, x, n as u32),
+            pointer_space,
+        } => match pointer_space {
+            Some(class) => type_pointer(sink, id, class as u32, x),
+            None => match vector_size {
+                Some(size) => type_vector(sink, id, x, size as u32),
+                None => put_scalar(sink, kind, width, id, x, y),
             },
-            PointerSpace::Of(c) => type_pointer(sink, id, c as u32, x),
         },
-        LocalType::Matrix {
-            columns,
-            rows: _,
-            width: _,
-        } => type_matrix(sink, id, x, columns as u32),
-        LocalType::Pointer { base: _, class } => type_pointer(sink, id, class as u32, x),
+        LocalType::Matrix { columns, .. } => type_matrix(sink, id, x, columns as u32),
+        LocalType::Pointer { class, .. } => type_pointer(sink, id, class as u32, x),
         LocalType::Image(i) => type_image(
             sink,
             id,
             x,
-            i.dim as u32,
+            i.dim.number(),
             i.depth as u32,
             i.arrayed as u32,
             i.multi as u32,
-            i.sampled as u32,
-            i.format as u32,
+            sampled_number(i.sampled) as u32,
+            i.format.number(),
         ),
         LocalType::Sampler => type_sampler(sink, id),
-        LocalType::PointerToBindingArray {
-            base: _,
-            size: _,
-            space,
-        } => type_pointer(sink, id, map_storage_class(space), x),
-        LocalType::BindingArray { base: _, size: _ } => type_array(sink, id, x, y),
+        LocalType::PointerToBindingArray { space, .. } => type_pointer(
+            sink,
+            id,
+            map_storage_class(space),
+            x,
+        ),
+        LocalType::BindingArray { .. } => type_array(sink, id, x, y),
         LocalType::AccelerationStructure => type_acceleration_structure(sink, id),
         LocalType::RayQuery => type_ray_query(sink, id),
     }

@@ -1,4 +1,4 @@
--- The OpCapability instructions, one a turn of the loop: the first i of them stand at the front of the buffer (`Listing`), and the
+-- The OpCapability instructions, one a turn of the loop: the first i of them stand at the front of the buffer (`Listed`), and the
 -- place behind them is 2 * i.
 use Prim.Native.Nat.{ℕ, ◌+◌, ◌*◌, ◌≤◌, ◌<◌}
 use mathlib.Core.Path.{◌≡◌, refl, sym, ap, ◌∙◌}
@@ -6,11 +6,11 @@ use mathlib.Core.List.{List, [], ◌∷◌, ◌++◌, append_assoc, append-nil}
 use native.Mathlib.Numerals.{add-one}
 use native.Mathlib.Omega.{arith}
 use lib.ListN.{length, get_or, take}
-use lib.Seq.{take-suc, take_all}
+use lib.Seq.{take-suc}
 use Rattle.definition.specs.Instructions.{Instruction, words, capability, all_words}
 use Rattle.definition.specs.State.{capability_instructions}
 use Rattle.spirv.specs.Put.{Put}
-use Rattle.spirv.proofs.Puts.{Begun, start, more, part, back, same_length}
+use Rattle.spirv.proofs.Puts.{Begun, start, more, part, back, lent_count}
 
 -- ---- their words
 
@@ -39,25 +39,25 @@ caps_more cs i h =
 -- ---- the loop
 
 -- the first i stand at the front
-pub record Listing (cs xs : List ℕ) (i : ℕ) (ys : List ℕ) (at : ℕ) : Type 0 where
-  pub most : i ≤ length cs
+pub record Listed (cs xs : List ℕ) (i : ℕ) (ys : List ℕ) (at : ℕ) : Type 0 where
   pub place : at ≡ 2 * i
-  pub kept : length ys ≡ length xs
   pub begun : Begun (all_words (capability_instructions (take i cs))) xs ys at
 
-pub listing_start : (cs xs : List ℕ) → Listing cs xs 0 xs 0
+pub listed_start : (cs xs : List ℕ) → Listed cs xs 0 xs 0
 unfolding capability_instructions all_words
-listing_start cs xs = record { most = omega arith; place = refl; kept = refl; begun = start xs }
+listed_start cs xs = record { place = refl; begun = start xs }
 
-module _ (cs xs : List ℕ) (i : ℕ) (ys : List ℕ) (at : ℕ) (l : Listing cs xs i ys at) where
-  -- a turn: one more, in what is left of the buffer
-  pub listing_more : (z : List ℕ) (m : ℕ) → i < length cs → 2 * length cs ≤ length xs → Put (words (capability (get_or cs i 0))) (part ys at) z m → Listing cs xs (i + 1) (back ys at z) (at + 2)
-  unfolding words
-  listing_more z m h room q =
-      let b : Begun (all_words (capability_instructions (take (i + 1) cs))) xs (back ys at z) (at + 2) =
-      rw (caps_more cs i h) (more _ (words (capability (get_or cs i 0))) xs ys z at m 2 l.begun q refl (omega (arith, l.place))) in
-      record { most = omega arith; place = omega (arith, l.place); kept = same_length _ xs _ (at + 2) b.written (omega (arith, b.size, l.place)); begun = b }
+module _ (cs xs : List ℕ) (i : ℕ) (ys : List ℕ) (at : ℕ) (l : Listed cs xs i ys at) where
+  module _ (z : List ℕ) (m : ℕ) (h : i < length cs) (room : 2 * length cs ≤ length ys) (q : Put (words (capability (get_or cs i 0))) (part ys at) z m) where
+    -- one more is two words,
+    pub two : m ≡ 2
+    unfolding words
+    two = lent_count ys at (words (capability (get_or cs i 0))) z m q (omega (arith, l.place))
 
-  -- the end
-  pub listing_all : length cs ≤ i → Put (all_words (capability_instructions cs)) xs ys at
-  listing_all h = rw (take_all i cs h) at l.begun.written
+    -- and stands behind those before
+    pub listed_more : length ys ≡ length xs → Listed cs xs (i + 1) (back ys at z) (at + m)
+    unfolding words
+    listed_more e = record {
+      place = omega (arith, l.place, two);
+      begun = rw (caps_more cs i h, two) (more _ (words (capability (get_or cs i 0))) xs ys z at m 2 l.begun q refl (omega (arith, l.place)));
+    }

@@ -1,7 +1,7 @@
 -- Under `Held` each region has the words of a section of the state, as words of 32 bits. Where the bound is small those are the
 -- state's own words (`apart`), so what lies in the regions, one behind the other, is the module (`same_words`). `module_put` follows
 -- the calls that write it; then a law for each answer.
-use Prim.Native.Nat.{ℕ, ◌+◌, ◌*◌, ◌-◌, ◌≤◌, ◌<◌}
+use Prim.Native.Nat.{ℕ, ◌+◌, ◌*◌, ◌≤◌, ◌<◌}
 use mathlib.Core.Path.{◌≡◌, refl, sym, ap, ◌∙◌}
 use mathlib.Core.Bool.{true}
 use mathlib.Core.List.{List, [], ◌∷◌, ◌++◌, map, append_assoc, append-nil}
@@ -22,8 +22,9 @@ use Rattle.writer.specs.Regions.{Section, names, annotations, declarations, sect
 use Rattle.writer.specs.Cost.{no_cost}
 use Rattle.writer.specs.Held.{Held, RoomFor}
 use Rattle.writer.specs.declared.Writer.{Writer}
-use Rattle.module_layout.specs.declared.Answer.TheVariants.{Written, Refused}
-use Rattle.module_layout.specs.Finished.{Front, Roomy, module_count, laid_out, module_words_in, Finished}
+use Rattle.std.specs.Prelude.{Ok, Err}
+use Rattle.refusals.specs.declared.Refusal.TheVariants.{BufferLength}
+use Rattle.module_layout.specs.Finished.{Front, module_count, laid_out, module_words_in, Finished}
 use Rattle.module_layout.proofs.Capabilities.{all_append, caps-length}
 
 -- ---- words of 32 bits
@@ -79,56 +80,12 @@ module _ (w : Writer) (S : List ℕ) (room : RoomFor no_cost w S) where
 
 -- ---- one section behind the other
 
--- a part that comes back as long as it was lent leaves the buffer as long as it was
-back-length : (xs : List ℕ) (at : ℕ) (z : List ℕ) → at ≤ length xs → length z ≡ length (part xs at) → length (back xs at z) ≡ length xs
-back-length xs at z h e =
-    let p : length (part xs at) ≡ length xs - at = length-take-le (length xs - at) (drop at xs) (simp length-drop (omega arith)) in
-    simp (length-append, length-drop, length-take-le at xs h) (omega arith)
-
 pub front_put : (bound : ℕ) (cs out : List ℕ) → 5 + 2 * length cs ≤ length out → (y z : List ℕ) (m k : ℕ) → Put (header bound) out y m
     → Put (all_words (capability_instructions cs)) (part y 5) z k → Front bound cs out (back y 5 z) (5 + 2 * length cs)
 front_put bound cs out room y z m k p q = record {
   written = behind (header bound) (all_words (capability_instructions cs)) out y z m 5 k (5 + 2 * length cs) p refl q (omega (arith, caps-length cs)) room;
   next = refl;
 }
-
--- what the calls lean on: the sections lie in their regions, and behind a place there is room for them in a buffer of n words
-pub record Placed (w : Writer) (S : List ℕ) (at n : ℕ) : Type 0 where
-  pub room : RoomFor no_cost w S
-  pub few : w.bytes ≤ 65536
-  pub start : at ≡ 5 + 2 * w.capabilities
-  pub most : module_count w ≤ n
-
--- it holds behind the front, and of the buffer as it comes back from each section's writer
-module _ (w : Writer) (S out : List ℕ) (ready : Roomy w S × (module_count w ≤ length out)) (bound at : ℕ) (y : List ℕ)
-    (f : Front bound (take w.capabilities S) out y at) (k : length y ≡ length out) where
-  pub placed : Placed w S at (length y)
-  placed = record {
-    room = ready.0.room;
-    few = ready.0.few;
-    start = omega (arith, f.next, listed w S ready.0.room);
-    most = omega (arith, ready.1);
-  }
-
-  module _ (z : List ℕ) (l : length z ≡ length (part y at)) where
-    names_back : length (back y at z) ≡ length y
-    names_back = let p = placed in back-length y at z (omega (arith, p.start, p.most)) l
-
-    pub placed_2 : Placed w S at (length (back y at z))
-    placed_2 = rw names_back placed
-
-    module _ (z' : List ℕ) (l' : length z' ≡ length (part (back y at z) (at + w.names))) where
-      annotations_back : length (back (back y at z) (at + w.names) z') ≡ length y
-      annotations_back = let p = placed_2 in back-length (back y at z) (at + w.names) z' (omega (arith, p.start, p.most)) l' ∙ names_back
-
-      pub placed_3 : Placed w S at (length (back (back y at z) (at + w.names) z'))
-      placed_3 = rw annotations_back placed
-
-      pub all_back : (z'' : List ℕ) → length z'' ≡ length (part (back (back y at z) (at + w.names) z') (at + w.names + w.annotations))
-          → length (back (back (back y at z) (at + w.names) z') (at + w.names + w.annotations) z'') ≡ length out
-      all_back z'' l'' =
-          let p = placed_3 in
-          back-length (back (back y at z) (at + w.names) z') (at + w.names + w.annotations) z'' (omega (arith, p.start, p.most)) l'' ∙ annotations_back ∙ k
 
 pub module_put : (w : Writer) (S : List ℕ) (bound : ℕ) (out : List ℕ) → RoomFor no_cost w S → module_count w ≤ length out
     → (y z3 z4 z5 : List ℕ) (at m3 m4 m5 : ℕ) → Front bound (take w.capabilities S) out y at
@@ -146,30 +103,25 @@ module_put w S bound out room fits y z3 z4 z5 at m3 m4 m5 f q3 q4 q5 =
 
 -- ---- the answers
 
-module _ (w : Writer) (S out : List ℕ) where
-  -- 15
-  pub passes : bound_most ≤ w.idgen.last → Finished w S out (Refused 15) out
-  passes h = record { says = λ p T held fits. simp (lt-leb (bound_of p.state) bound_most (omega (arith, held.last))); counted = tt }
+module _ (w : Writer) (S out : List ℕ) (low : w.idgen.last < bound_most) (room : RoomFor no_cost w S) where
+  -- 16
+  pub short : length out < module_count w → Finished w S out (Err BufferLength) out
+  short h = record {
+    says = λ p T held fits.
+        let e = same_words w T S p.state held (fits (omega (arith, held.last))) in
+        let l : length out < length (module_words p.state) = omega (arith, ap length e, count_is w S room (bound_of p.state)) in
+        simp (le-leb (bound_of p.state) bound_most (omega (arith, held.last)), lt-leb (length (module_words p.state)) (length out) l);
+    counted = tt;
+  }
 
-  module _ (low : w.idgen.last < bound_most) (room : RoomFor no_cost w S) where
-    -- 16
-    pub short : length out < module_count w → Finished w S out (Refused 16) out
-    short h = record {
-      says = λ p T held fits.
-          let e = same_words w T S p.state held (fits (omega (arith, held.last))) in
-          let l : length out < length (module_words p.state) = omega (arith, ap length e, count_is w S room (bound_of p.state)) in
-          simp (le-leb (bound_of p.state) bound_most (omega (arith, held.last)), lt-leb (length (module_words p.state)) (length out) l);
-      counted = tt;
-    }
-
-    pub written : (bound n m : ℕ) (after : List ℕ) → bound ≡ w.idgen.last + 1 → n ≡ module_count w → n ≤ length out → w.bytes ≤ 65536 → Put (module_words_in w S bound) out after m
-        → Finished w S out (Written n bound) after
-    written bound n m after eb en h few q = record {
-      says = λ p T held fits.
-          let eq : bound ≡ bound_of p.state = omega (arith, held.last) in
-          let e : module_words_in w S bound ≡ module_words p.state = rw eq (same_words w T S p.state held (fits (omega (arith, held.last)))) in
-          let l : length (module_words p.state) ≡ n = omega (arith, ap length e, count_is w S room bound) in
-          let f : after ≡ put (module_words p.state) out = q.words ∙ ap (λ (ws : List ℕ). put ws out) e in
-          simp (le-leb (bound_of p.state) bound_most (omega (arith, held.last)), le-leb (length (module_words p.state)) (length out) (omega arith)) cc;
-      counted = omega (arith, few, room.in_capabilities, room.in_names, room.in_annotations, room.in_declarations);
-    }
+  pub written : (bound n m : ℕ) (after : List ℕ) → bound ≡ w.idgen.last + 1 → n ≡ module_count w → n ≤ length out → w.bytes ≤ 65536 → Put (module_words_in w S bound) out after m
+      → Finished w S out (Ok (record { words = n; bound = bound })) after
+  written bound n m after eb en h few q = record {
+    says = λ p T held fits.
+        let eq : bound ≡ bound_of p.state = omega (arith, held.last) in
+        let e : module_words_in w S bound ≡ module_words p.state = rw eq (same_words w T S p.state held (fits (omega (arith, held.last)))) in
+        let l : length (module_words p.state) ≡ n = omega (arith, ap length e, count_is w S room bound) in
+        let f : after ≡ put (module_words p.state) out = q.words ∙ ap (λ (ws : List ℕ). put ws out) e in
+        simp (le-leb (bound_of p.state) bound_most (omega (arith, held.last)), le-leb (length (module_words p.state)) (length out) (omega arith)) cc;
+    counted = omega (arith, few, room.in_capabilities, room.in_names, room.in_annotations, room.in_declarations);
+  }

@@ -11,17 +11,19 @@ use Rattle.spirv.specs.Put.{Put}
 use Rattle.writer.specs.Cost.{no_cost}
 use Rattle.writer.specs.Held.{Held, RoomFor, Sections, sections_of}
 use Rattle.writer.specs.declared.Writer.{Writer}
-use Rattle.module_layout.specs.declared.Answer.{Answer}
-use Rattle.module_layout.specs.declared.Answer.TheVariants.{Written, Refused}
+use Rattle.std.specs.Prelude.{Result, Ok, Err}
+use Rattle.refusals.specs.declared.Refusal.{Refusal}
+use Rattle.refusals.specs.Numbers.{number_of}
+use Rattle.module_layout.specs.declared.Module.{Module}
 
 -- ---- document 01's values for each case of the answer
 
-abbrev pub answer_of : Answer → Meant
-answer_of (Written n bound) = Meant.Written n bound
-answer_of (Refused n) = Meant.Refused n
+abbrev pub answer_of : Result Module Refusal → Meant
+answer_of (Ok m) = Meant.Written m.words m.bound
+answer_of (Err r) = Meant.Refused (number_of r)
 
 -- the answer, and the buffer that is left
-abbrev pub declared_as : Answer → List ℕ → Declared
+abbrev pub declared_as : Result Module Refusal → List ℕ → Declared
 declared_as r b = record { answer = answer_of r; buffer = b }
 
 -- ---- the module as it lies in the sections
@@ -54,11 +56,11 @@ abbrev pub Worded : State → Type 0
 Worded s = bound_of s ≤ bound_most → every is_word (module_words s) ≡ true
 
 -- a word count has 32 bits
-abbrev pub CountFits : Answer → Type 0
-CountFits (Written n bound) = n < 4294967296
-CountFits (Refused n) = Unit
+abbrev pub CountFits : Result Module Refusal → Type 0
+CountFits (Ok m) = m.words < 4294967296
+CountFits (Err r) = Unit
 
-pub record Finished (w : Writer) (S before : List ℕ) (r : Answer) (after : List ℕ) : Type 0 where
+pub record Finished (w : Writer) (S before : List ℕ) (r : Result Module Refusal) (after : List ℕ) : Type 0 where
   pub says : (p : Progress) (T : List ℕ) → Held w T S p.state → Worded p.state
       → declared_as r after ≡ declared_of before (bound_test (fit p))
   pub counted : CountFits r

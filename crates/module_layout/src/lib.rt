@@ -9,16 +9,17 @@ ghost use Rattle.definition.specs.State.{capability_instructions};
 ghost use Rattle.spirv.specs.Put.{Put};
 ghost use Rattle.module_layout.specs.Finished.{Front, Roomy, module_count, module_words_in, Finished};
 
+use refusals::Refusal;
 use spirv::instructions::capability;
 use spirv::layout::PhysicalLayout;
 use spirv::words::put_words;
 use writer::{ANNOTATIONS, DECLARATIONS, NAMES, Writer};
 
-// What Declare answers: the word count and the bound, or the number of the refusal.
+// A module that was written: its word count and its bound.
 #[derive(Clone, Copy)]
-pub enum Answer {
-    Written(usize, u32),
-    Refused(u8),
+pub struct Module {
+    pub words: usize,
+    pub bound: u32,
 }
 
 // The words of the header, and of an OpCapability.
@@ -34,12 +35,9 @@ fn put_capabilities(out: &mut [u32], numbers: &[u32]) -> usize
     requires { 2 * length numbers.now ≤ length out.old }
     ensures { Put (all_words (capability_instructions numbers.now)) out.old out.new result }
 {
-    let mut i = 0;
     let mut at = 0;
-    while i < numbers.len() {
-        capability(&mut out[at..], numbers[i]);
-        at += CAPABILITY_WORDS;
-        i += 1;
+    for number in numbers {
+        at += capability(&mut out[at..], *number);
     }
     at
 }
@@ -98,19 +96,19 @@ fn put_module(out: &mut [u32], sections: &[u32], w: Writer, bound: u32) -> usize
 }
 
 // Tests 15 and 16, and then the module; a refusal writes nothing.
-pub fn write_module(out: &mut [u32], sections: &[u32], w: Writer) -> Answer
+pub fn write_module(out: &mut [u32], sections: &[u32], w: Writer) -> Result<Module, Refusal>
     requires { Roomy w sections.now }
     ensures { Finished w sections.now out.old result out.new }
 {
     let g = w.idgen;
     if BOUND_MOST <= g.last {
-        return Answer::Refused(15);
+        return Err(Refusal::Bound);
     }
     let n = module_count(w);
     if out.len() < n {
-        return Answer::Refused(16);
+        return Err(Refusal::BufferLength);
     }
     let bound = (g.last + 1) as u32;
     put_module(out, sections, w, bound);
-    Answer::Written(n, bound)
+    Ok(Module { words: n, bound })
 }

@@ -1,5 +1,6 @@
 // The text that the programs print: words as lines of hexadecimal digits, a refusal, yes and no. Each function puts its bytes
-// into a text that the caller lends, so that a program writes all of it in one call; only `streams` reads and writes.
+// into a text that the caller lends, so that a program writes all of it in one call; only `streams` reads and writes. They are no
+// `Display`: of that the library promises what is written where it answers Ok, which a call that always fails meets; these cannot fail.
 #![tactic(auto)]
 
 pub mod streams;
@@ -27,10 +28,8 @@ pub fn put_digits(text: &mut [u8], at: usize, base: u32, k: usize, n: u32)
     requires { (0 < base) × (base ≤ 16) × (at + k ≤ length text.old) }
     ensures { text.new ≡ sets text.old at (digits base k n) }
 {
-    let mut left = k;
     let mut rest = n;
-    while left > 0 {
-        left -= 1;
+    for left in (0..k).rev() {
         text[at + left] = digit(rest % base);
         rest /= base;
     }
@@ -51,10 +50,8 @@ pub fn put_lines(text: &mut [u8], words: &[u32], n: usize) -> usize
     ensures printed { Printed (lines_of (take n words.now)) text.old text.new result }
     ensures value { result ≡ 9 * n }
 {
-    let mut i = 0;
-    while i < n {
+    for i in 0..n {
         put_line(text, 9 * i, words[i]);
-        i += 1;
     }
     9 * n
 }
@@ -64,12 +61,10 @@ pub fn put_bytes(text: &mut [u8], at: usize, bytes: &[u8]) -> usize
     requires { at + length bytes.now ≤ length text.old }
     ensures { PutText bytes.now text.old at text.new result }
 {
-    let mut i = 0;
-    while i < bytes.len() {
+    for i in 0..bytes.len() {
         text[at + i] = bytes[i];
-        i += 1;
     }
-    at + i
+    at + bytes.len()
 }
 
 // How many decimal digits a number has.

@@ -2,3 +2,4 @@ pub mod Chain
 pub mod Places
 pub mod Loop
 pub mod Types
+pub mod Ranks

@@ -1,3 +1,4 @@
 pub mod Counted
 pub mod Places
 pub mod Flags
+pub mod Ranks

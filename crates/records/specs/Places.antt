@@ -1,8 +1,7 @@
 -- What the program holds of a sheet that it has read in part: places of records, and counts. What was read is found
 -- again at the places, so that nothing has to be said of how the two hang together.
-use Rattle.std.specs.Prelude.{ℕ, ◌+◌, ◌≤◌, List, map, eqb, length, take, drop}
-use Rattle.std.proofs.Math.Option.{Option, some, none}
-use Rattle.definition.specs.Choice.{pick}
+use Rattle.std.specs.Prelude.{ℕ, ◌+◌, ◌≤◌, List, map, length, take, drop}
+use Rattle.std.specs.Prelude.{Option, Some, None}
 use Rattle.definition.specs.Bytes.{name_end}
 use Rattle.definition.specs.Sheet.{Record, record_at, TypeEntry, type_entry, type_fields, Function, Expression, constant_fields, Global, global_fields, Remap, remap_fields, available_fields}
 use Rattle.definition.specs.Tests.{Seen, remaps_most, types_most, functions_most, constants_most, globals_most}
@@ -12,9 +11,10 @@ use Rattle.records.specs.declared.Counts.{Counts}
 abbrev pub record_from : List ℕ → ℕ → Record
 record_from s at = record_at (drop at s)
 
--- what is available, of Available's place: 0, before the header, is none
-abbrev pub available_from : List ℕ → ℕ → Option (List ℕ)
-available_from s at = pick (eqb at 0) none (some (available_fields (record_from s at).body).value)
+-- what is available, of Available's place
+abbrev pub available_from : List ℕ → Option ℕ → Option (List ℕ)
+available_from s None = None
+available_from s (Some at) = Some (available_fields (record_from s at).body).value
 
 abbrev pub remap_from : List ℕ → ℕ → Remap
 remap_from s at = (remap_fields (record_from s at).body).value

@@ -2,12 +2,16 @@
 // Decides tests 1 to 7 of document 01. A record's body is handed on as that part of the sheet, and not looked into here.
 #![tactic(auto)]
 
-ghost use Rattle.std.specs.Prelude.{◌≡◌, true, false, ◌+◌, ◌<◌, drop};
+ghost use Rattle.std.specs.Prelude.{◌≡◌, Some, ◌+◌, ◌<◌, drop};
 ghost use Rattle.definition.specs.Bytes.{u16_at};
 ghost use Rattle.definition.specs.Sheet.{flags_of, options_of, record_at, tag_rank};
 ghost use Rattle.definition.specs.Tests.{Seen, header_test, no_record, out_of_order, room, place_test};
 ghost use Rattle.records.specs.Counted.{Counted};
 ghost use Rattle.records.specs.Flags.{options_from};
+ghost use Rattle.records.specs.Ranks.{rank_number};
+ghost use Rattle.refusals.specs.Numbers.{test_number};
+
+use refusals::Refusal;
 
 pub const SHEET_LEAST: usize = 6;
 
@@ -25,19 +29,38 @@ pub const CONSTANTS_MOST: usize = 256;
 
 pub const GLOBALS_MOST: usize = 64;
 
-// What has been read: the rank of the last record, how many bytes of the sheet come before Available, or 0 where there is none, and
-// how many records there are of each other kind. Where those stand is kept in slices, which the caller lends; but no record names a
+// What has been read: the rank of the last record, the place of Available if there is one, and how many records there are of each
+// other kind. Where those stand is kept in slices, which the caller lends; but no record names a
 // function, so of those only the number is kept. The numbers are of one width, since a copy of narrower ones with gaps between them
 // takes longer, and a record's turn makes many.
 #[derive(Clone, Copy)]
 pub struct Counts {
     pub rank: usize,
-    pub available: usize,
+    pub available: Option<usize>,
     pub remaps: usize,
     pub types: usize,
     pub functions: usize,
     pub constants: usize,
     pub globals: usize,
+}
+
+// The kinds of records, in the order in which a sheet has them.
+#[derive(Clone, Copy)]
+pub enum Rank {
+    Available = 1,
+    Remaps = 2,
+    Types = 3,
+    Functions = 4,
+    Constants = 5,
+    Globals = 6,
+}
+
+impl Rank {
+    pub fn number(self) -> usize
+        ensures { result ≡ rank_number (Some self) }
+    {
+        self as usize
+    }
 }
 
 // What the flags of a sheet ask for: bit 0 debug names, bit 1 native workgroup zeroing.
@@ -47,23 +70,21 @@ pub struct Options {
     pub zeroing: bool,
 }
 
-// Tests 1, 2 and 3: the number of the first that fails, or 0.
-pub fn header_test(sheet: &[u8]) -> u8
-    ensures { result ≡ header_test sheet.now }
+// Tests 1, 2 and 3: the first that fails.
+#[tactic(auto, unfolding(definition::specs::Tests::header_test))]
+pub fn header_test(sheet: &[u8]) -> Result<(), Refusal>
+    ensures { test_number result ≡ header_test sheet.now }
 {
-    if sheet.len() < SHEET_LEAST {
-        return 1;
-    }
-    if SHEET_MOST < sheet.len() {
-        return 1;
+    if sheet.len() < SHEET_LEAST || SHEET_MOST < sheet.len() {
+        return Err(Refusal::SheetLength);
     }
     if fields::u8_at(sheet, 0) != 1 {
-        return 2;
+        return Err(Refusal::Version);
     }
     if 4 <= fields::u8_at(sheet, 5) {
-        return 3;
+        return Err(Refusal::Flags);
     }
-    0
+    Ok(())
 }
 
 // The options of a sheet, by its flags.
@@ -124,61 +145,62 @@ pub fn next_place(rest: &[u8], at: usize) -> usize
     at + (2 + fields::u16_at(rest, 0) as usize)
 }
 
-// Available 1, Remap 2, types 3, functions 4, constants 5, globals 6; 0 is no tag.
-pub fn rank_of(tag: u8) -> u8
-    ensures { result ≡ tag_rank tag }
+// The rank of a tag; none of what is no tag.
+#[tactic(auto, unfolding(definition::specs::Sheet::tag_rank))]
+pub fn rank_of(tag: u8) -> Option<Rank>
+    ensures { rank_number result ≡ tag_rank tag }
 {
     match tag {
-        1 => 1,
-        2 => 2,
-        16..=28 => 3,
-        48 => 4,
-        64..=68 => 5,
-        96 => 6,
-        _ => 0,
+        1 => Some(Rank::Available),
+        2 => Some(Rank::Remaps),
+        16..=28 => Some(Rank::Types),
+        48 => Some(Rank::Functions),
+        64..=68 => Some(Rank::Constants),
+        96 => Some(Rank::Globals),
+        _ => None,
     }
 }
 
-// Test 6 of a record of rank r.
-fn out_of_order(k: Counts, r: u8) -> bool
-    ensures { (n : Seen) → Counted n k → result ≡ out_of_order n r }
+// Test 6 of a record of a rank.
+fn out_of_order(k: Counts, rank: Rank) -> bool
+    ensures { (n : Seen) → Counted n k → result ≡ out_of_order n (rank_number (Some rank)) }
 {
-    if (r as usize) < k.rank {
+    if rank.number() < k.rank {
         return true;
     }
-    if r == 1 {
-        return 0 < k.available;
-    }
-    false
-}
-
-// Test 7 of a record of rank r.
-fn has_room(k: Counts, r: u8) -> bool
-    ensures { (n : Seen) → Counted n k → result ≡ room n r }
-{
-    match r {
-        2 => k.remaps < REMAPS_MOST,
-        3 => k.types < TYPES_MOST,
-        4 => k.functions < FUNCTIONS_MOST,
-        5 => k.constants < CONSTANTS_MOST,
-        6 => k.globals < GLOBALS_MOST,
-        _ => true,
+    match rank {
+        Rank::Available => k.available.is_some(),
+        _ => false,
     }
 }
 
-// Tests 5, 6 and 7 of a record of tag t: the number of the first that fails, or 0.
-pub fn place_test(counts: Counts, tag: u8) -> u8
-    ensures { (n : Seen) → Counted n counts → result ≡ place_test n tag }
+// Test 7 of a record of a rank.
+fn has_room(k: Counts, rank: Rank) -> bool
+    ensures { (n : Seen) → Counted n k → result ≡ room n (rank_number (Some rank)) }
 {
-    let r = rank_of(tag);
-    if r == 0 {
-        return 5;
+    match rank {
+        Rank::Available => true,
+        Rank::Remaps => k.remaps < REMAPS_MOST,
+        Rank::Types => k.types < TYPES_MOST,
+        Rank::Functions => k.functions < FUNCTIONS_MOST,
+        Rank::Constants => k.constants < CONSTANTS_MOST,
+        Rank::Globals => k.globals < GLOBALS_MOST,
     }
-    if out_of_order(counts, r) {
-        return 6;
+}
+
+// Tests 5, 6 and 7 of a record of tag t: the first that fails.
+#[tactic(auto, unfolding(definition::specs::Tests::place_test))]
+pub fn place_test(counts: Counts, tag: u8) -> Result<(), Refusal>
+    ensures { (n : Seen) → Counted n counts → test_number result ≡ place_test n tag }
+{
+    let Some(rank) = rank_of(tag) else {
+        return Err(Refusal::UnknownTag);
+    };
+    if out_of_order(counts, rank) {
+        return Err(Refusal::OutOfOrder);
     }
-    if !has_room(counts, r) {
-        return 7;
+    if !has_room(counts, rank) {
+        return Err(Refusal::TooMany);
     }
-    0
+    Ok(())
 }

@@ -1,13 +1,14 @@
 -- What is held after a record is what was held, with the record added: for each rank, the list of its kind is longer by
 -- the entry at the record's place. Then the counts: they are those of what was read, and stay within their limits. The functions that
 -- were read are any list of the length that is counted, since no test looks at one.
+use Rattle.std.specs.Prelude.{Option, Some, None}
 use Prim.Native.Nat.{ℕ, zero, suc, ◌+◌, ◌≤◌, ◌<◌}
 use mathlib.Core.Path.{◌≡◌, refl, ap, sym, ◌∙◌}
 use mathlib.Core.Bool.{true, not}
 use mathlib.Core.List.{List, [], ◌∷◌, ◌++◌, map}
 use native.Mathlib.Omega.{arith}
 use native.Mathlib.Numerals.{add-one}
-use borrow.Author.Tests.{ltb-true, lt-ltb, ne_eqb}
+use borrow.Author.Tests.{ltb-true}
 use lib.Dec.{eqb, ltb}
 use lib.ListN.{length, take, set, length-map, length-append}
 use lib.Seq.{length-take-le, take-suc-set, take-set-le}
@@ -25,9 +26,9 @@ use Rattle.sheet.proofs.Hashes.{hashed_more}
 
 -- ---- the counts are those of what was read
 
-there : (s : List ℕ) (at : ℕ) → present (available_from s at) ≡ ltb 0 at
-there s zero = refl
-there s (suc at) = simp (ne_eqb (suc at) 0 (λ e. omega arith), lt-ltb 0 (suc at) (omega arith))
+there : (s : List ℕ) (at : Option ℕ) → present (available_from s at) ≡ present at
+there s None = refl
+there s (Some at) = refl
 
 count : {A : Type 0} (f : ℕ → A) (l : List ℕ) (n : ℕ) → n ≤ length l → length (map f (take n l)) ≡ n
 count f l n h = length-map (take n l) f ∙ length-take-le n l h
@@ -125,7 +126,7 @@ module _ (s : List ℕ) (p : Places) (k : Counts) (at : ℕ) (d : PassedAt s p k
   unfolding noted_at add_counts add_record add entry_of
   adds_1 e q =
       record {
-        seen = λ fs. simp (e, ne_eqb at 0 (λ z. omega (arith, d.late)));
+        seen = λ fs. simp e;
         functions = λ fs l. simp e l;
         few = record { remaps = f.remaps; types = f.types; functions = f.functions; constants = f.constants; globals = f.globals };
         hashed = d.hashed;

@@ -1,18 +1,20 @@
 -- Test 12. A search for an entry among the first n places, one place a turn: one set of laws for whatever is looked for.
 -- Then two records by their tags and bodies.
 use Prim.Native.Nat.{ℕ, zero, suc, ◌+◌, ◌-◌, ◌≤◌, ◌<◌}
-use mathlib.Core.Path.{◌≡◌, refl, ap, ◌∙◌}
+use mathlib.Core.Path.{◌≡◌, refl, ap, sym, subst, ◌∙◌}
 use mathlib.Core.Bool.{Bool, true, false, ◌&&◌, and-false}
 use mathlib.Core.List.{List, [], ◌∷◌, map}
 use native.Mathlib.Nat.{add-zero}
 use native.Mathlib.Numerals.{add-one}
 use native.Mathlib.Omega.{arith}
 use borrow.Author.Tests.{eq-eqb, ne_eqb}
-use lib.Dec.{eqb}
+use lib.Dec.{T, eqb}
+use Rattle.definition.proofs.Same.{same_bytes_lem}
 use lib.ListN.{length, get_or, take, drop, drop_of_length-le}
 use lib.Seq.{drop-cons, get_or-take, length-take-le}
 use Rattle.definition.specs.Choice.{pick}
-use Rattle.definition.specs.Sheet.{Record, Remap}
+use Rattle.definition.specs.Bytes.{u32_at}
+use Rattle.definition.specs.Sheet.{Record, remap_fields}
 use Rattle.definition.specs.Tests.{same_bytes, same_record, type_read, remap_read}
 use Rattle.records.specs.Places.{record_from, type_from, remap_from}
 
@@ -54,9 +56,18 @@ pub types : (s : List ℕ) (r : Record) → Search (λ os. type_read r (map (typ
 unfolding type_read
 types s r = record { none = refl; more = λ o os. refl }
 
-pub remaps : (s : List ℕ) (m : Remap) → Search (λ os. remap_read m (map (remap_from s) os)) (λ o. eqb (remap_from s o).group m.group && eqb (remap_from s o).binding m.binding)
-unfolding remap_read
-remaps s m = record { none = refl; more = λ o os. refl }
+-- ---- the remaps: a turn of the loop over them, and its end
+
+module _ (s places : List ℕ) (k : ℕ) (b : List ℕ) where
+  pub remap_turn : k < length places → remap_read (remap_fields b).value (map (remap_from s) (drop k places))
+      ≡ pick (eqb (u32_at (record_from s (get_or places k 0)).body 0) (u32_at b 0) && eqb (u32_at (record_from s (get_or places k 0)).body 4) (u32_at b 4)) true
+      (remap_read (remap_fields b).value (map (remap_from s) (drop (k + 1) places)))
+  unfolding remap_read remap_fields
+  remap_turn lt = ap (λ (l : List ℕ). remap_read (remap_fields b).value (map (remap_from s) l)) (drop_at places k lt)
+
+  pub remap_end : length places ≤ k → remap_read (remap_fields b).value (map (remap_from s) (drop k places)) ≡ false
+  unfolding remap_read
+  remap_end h = ap (λ (l : List ℕ). remap_read (remap_fields b).value (map (remap_from s) l)) (drop_of_length-le places {i = k} h)
 
 -- ---- two records
 
@@ -64,10 +75,19 @@ pub other_tag : (x r : Record) → (x.tag ≡ r.tag → ⊥) → same_record x r
 unfolding same_record
 other_tag x r h = rw (ne_eqb x.tag r.tag h)
 
-pub other_body : (x r : Record) → same_bytes x.body r.body ≡ false → same_record x r ≡ false
+pub other_body : (x r : Record) → (x.body ≡ r.body → ⊥) → same_record x r ≡ false
 unfolding same_record
-other_body x r h = rw (h, and-false)
+other_body x r h = go (same_bytes x.body r.body) refl
+  where
+    go : (c : Bool) → same_bytes x.body r.body ≡ c → (eqb x.tag r.tag && same_bytes x.body r.body) ≡ false
+    go false e = rw (e, and-false)
+    go true e = absurd (h (same_bytes_lem x.body r.body (subst T (sym e) tt)))
 
-pub same : (x r : Record) → x.tag ≡ r.tag → same_bytes x.body r.body ≡ true → same_record x r ≡ true
+itself : (a : List ℕ) → same_bytes a a ≡ true
+unfolding same_bytes
+itself [] = refl
+itself (x ∷ a) = rw (eq-eqb x x refl) (itself a)
+
+pub same : (x r : Record) → x.tag ≡ r.tag → x.body ≡ r.body → same_record x r ≡ true
 unfolding same_record
-same x r h k = rw (eq-eqb x.tag r.tag h, k)
+same x r h k = rw (eq-eqb x.tag r.tag h, k) (itself r.body)

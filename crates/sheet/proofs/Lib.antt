@@ -1,5 +1,5 @@
-pub mod Comparing
 pub mod Hashes
+pub mod Hashing
 pub mod Earlier
 pub mod Adding
 pub mod Order

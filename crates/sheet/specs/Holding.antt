@@ -1,5 +1,5 @@
 -- What is held of the records that were read, and what is held after one more.
-use Rattle.std.specs.Prelude.{ℕ, ◌+◌, ◌<◌, ◌≡◌, List, eqb, length, set}
+use Rattle.std.specs.Prelude.{ℕ, ◌+◌, ◌<◌, ◌≡◌, List, eqb, length, set, Some, None}
 use Rattle.definition.specs.Choice.{pick}
 use Rattle.definition.specs.Sheet.{Function, tag_rank}
 use Rattle.definition.specs.Tests.{reading_test, add_record, types_most}
@@ -9,7 +9,7 @@ use Rattle.sheet.specs.Hash.{Hashed}
 
 -- before the first record
 abbrev pub no_counts : Counts
-no_counts = record { rank = 0; available = 0; remaps = 0; types = 0; functions = 0; constants = 0; globals = 0 }
+no_counts = record { rank = 0; available = None; remaps = 0; types = 0; functions = 0; constants = 0; globals = 0 }
 
 -- a type's place and hash, as the n-th
 abbrev pub type_noted : List ℕ → ℕ → ℕ → ℕ → List ℕ
@@ -28,7 +28,7 @@ noted_at p k r at h = record {
 unfoldable pub add_counts : Counts → ℕ → ℕ → Counts
 add_counts k r at = record {
   rank = r;
-  available = pick (eqb r 1) at k.available;
+  available = pick (eqb r 1) (Some at) k.available;
   remaps = pick (eqb r 2) (k.remaps + 1) k.remaps;
   types = pick (eqb r 3) (k.types + 1) k.types;
   functions = pick (eqb r 4) (k.functions + 1) k.functions;
@@ -41,7 +41,6 @@ pub record PassedAt (s : List ℕ) (p : Places) (k : Counts) (at : ℕ) : Type 0
   pub ample : Ample p
   pub few : WithinLimits k
   pub hashed : Hashed s p.types k.types
-  pub late : 0 < at
   pub small : at < 4294967296
   pub functions : List Function
   pub counted : length functions ≡ k.functions

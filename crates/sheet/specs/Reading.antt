@@ -1,5 +1,5 @@
 -- What the tests of a record look at.
-use Rattle.std.specs.Prelude.{ℕ, zero, suc, ◌+◌, ◌*◌, ◌≤◌, ◌≡◌, List, map, length, get_or, take}
+use Rattle.std.specs.Prelude.{ℕ, ◌+◌, ◌≤◌, ◌≡◌, List, map, length, take}
 use Rattle.definition.specs.Tests.{Seen, types_most}
 use Rattle.records.specs.Counted.{Counted}
 use Rattle.records.specs.Places.{remap_from, type_from}
@@ -17,8 +17,3 @@ pub record Stored (s rs ts : List ℕ) (k : Counts) : Type 0 where
   pub remaps : k.remaps ≤ length rs
   pub types : types_most + k.types ≤ length ts
   pub hashed : Hashed s ts k.types
-
--- n bytes from i on as one number, the first the highest
-unfoldable pub bytes_at : List ℕ → ℕ → ℕ → ℕ
-bytes_at s i zero = 0
-bytes_at s i (suc n) = bytes_at s i n * 256 + get_or s (i + n) 0

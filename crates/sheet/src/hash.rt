@@ -5,6 +5,8 @@ ghost use Rattle.definition.specs.Sheet.{record_at};
 ghost use Rattle.sheet_fields.specs.Fields.{record_of};
 ghost use Rattle.sheet.specs.Hash.{hash_step, hash_of, HashFor};
 
+use records::Rank;
+
 // One word more. The factor is odd, so that bodies of one length that differ in one word alone have different hashes.
 fn hash_step(h: u32, w: u32) -> u32
     ensures { result ≡ hash_step h w }
@@ -16,14 +18,11 @@ fn hash_step(h: u32, w: u32) -> u32
 fn hash_of(t: u8, b: &[u8]) -> u32
     ensures { result ≡ hash_of (record_of t b.now) }
 {
-    let n = b.len() / 4;
     let mut h = t as u32;
-    let mut i = 0;
-    while i < n {
-        h = hash_step(h, fields::whole_u32_at(b, 4 * i));
-        i += 1;
+    for word in b.chunks_exact(4) {
+        h = hash_step(h, fields::whole_u32_at(word, 0));
     }
-    hash_step(h, fields::u32_at(b, 4 * n))
+    hash_step(h, fields::u32_at(b, b.len() / 4 * 4))
 }
 
 // The hash of the type at the front of what is left, for its tests and for what is held of it; of any other record 0.
@@ -31,8 +30,8 @@ pub fn hash_at(rest: &[u8]) -> u32
     ensures { HashFor (record_at rest.now) result }
 {
     let t = records::tag_of(rest);
-    if records::rank_of(t) != 3 {
-        return 0;
+    match records::rank_of(t) {
+        Some(Rank::Types) => hash_of(t, records::body_of(rest)),
+        _ => 0,
     }
-    hash_of(t, records::body_of(rest))
 }

@@ -2,17 +2,18 @@
 ghost use Rattle.std.specs.Prelude.{◌≡◌, ◌<◌, ◌≤◌, set};
 ghost use Rattle.definition.specs.Tests.{types_most};
 ghost use Rattle.records.specs.Places.{places_of, record_from, WithinLimits};
+ghost use Rattle.records.specs.Ranks.{rank_number};
 ghost use Rattle.sheet.specs.Hash.{HashFor};
 ghost use Rattle.sheet.specs.Holding.{no_counts, type_noted, noted_at, add_counts, PassedAt, RecordHeld};
 
-use records::{Counts, TYPES_MOST};
+use records::{Counts, Rank, TYPES_MOST};
 
 pub fn nothing() -> Counts
     ensures { result ≡ no_counts }
 {
     Counts {
         rank: 0,
-        available: 0,
+        available: None,
         remaps: 0,
         types: 0,
         functions: 0,
@@ -40,62 +41,47 @@ fn note_type(types: &mut [u32], n: usize, at: usize, hash: u32)
     put(types, TYPES_MOST + n, hash as usize);
 }
 
-// Keeps the place of a record of rank r, and a type's hash. Of a function nothing is kept, since no record names one.
+// Keeps the place of a record of a rank, and a type's hash. Of a function nothing is kept, since no record names one.
+#[tactic(auto, unfolding(crate::specs::Holding::noted_at))]
 fn note(
     remaps: &mut [u32],
     types: &mut [u32],
     constants: &mut [u32],
     globals: &mut [u32],
     k: Counts,
-    r: u8,
+    rank: Option<Rank>,
     at: usize,
     hash: u32,
 )
     requires { WithinLimits k × (at < 4294967296) }
-    ensures { places_of remaps.new types.new constants.new globals.new ≡ noted_at (places_of remaps.old types.old constants.old globals.old) k r at hash }
+    ensures { places_of remaps.new types.new constants.new globals.new ≡ noted_at (places_of remaps.old types.old constants.old globals.old) k (rank_number rank) at hash }
 {
-    match r {
-        2 => put(remaps, k.remaps, at),
-        3 => note_type(types, k.types, at, hash),
-        5 => put(constants, k.constants, at),
-        6 => put(globals, k.globals, at),
+    match rank {
+        Some(Rank::Remaps) => put(remaps, k.remaps, at),
+        Some(Rank::Types) => note_type(types, k.types, at, hash),
+        Some(Rank::Constants) => put(constants, k.constants, at),
+        Some(Rank::Globals) => put(globals, k.globals, at),
         _ => {}
     }
 }
 
-// The counts after a record of rank r.
-fn added(mut k: Counts, r: u8, at: usize) -> Counts
+// The counts after a record of a rank.
+#[tactic(auto, unfolding(crate::specs::Holding::add_counts))]
+fn added(mut k: Counts, rank: Option<Rank>, at: usize) -> Counts
     requires { WithinLimits k }
-    ensures { result ≡ add_counts k r at }
+    ensures { result ≡ add_counts k (rank_number rank) at }
 {
-    k.rank = r as usize;
-    match r {
-        1 => {
-            k.available = at;
-            k
-        }
-        2 => {
-            k.remaps += 1;
-            k
-        }
-        3 => {
-            k.types += 1;
-            k
-        }
-        4 => {
-            k.functions += 1;
-            k
-        }
-        5 => {
-            k.constants += 1;
-            k
-        }
-        6 => {
-            k.globals += 1;
-            k
-        }
-        _ => k,
+    match rank {
+        Some(Rank::Available) => k.available = Some(at),
+        Some(Rank::Remaps) => k.remaps += 1,
+        Some(Rank::Types) => k.types += 1,
+        Some(Rank::Functions) => k.functions += 1,
+        Some(Rank::Constants) => k.constants += 1,
+        Some(Rank::Globals) => k.globals += 1,
+        None => {}
     }
+    k.rank = rank.map_or(0, Rank::number);
+    k
 }
 
 // Holds the record at a place, which passed its tests, with what was held before; a type's hash is given.

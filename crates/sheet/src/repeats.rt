@@ -8,9 +8,9 @@ ghost use Rattle.records.specs.Places.{type_from, remap_from};
 ghost use Rattle.sheet_fields.specs.Fields.{record_of};
 ghost use Rattle.sheet.specs.Hash.{hash_of, HashFor, Hashed, Unlike};
 ghost use Rattle.sheet.specs.Reading.{Looked, Stored};
+ghost use Rattle.std.specs.Option.{MatchOption};
 
-use crate::bodies::same_up_to;
-use records::{Counts, TYPES_MOST};
+use records::{Counts, Rank, TYPES_MOST};
 
 // Where the name and the fixed fields of a type end, and the members of a struct begin.
 fn fixed_end(t: u8, b: &[u8]) -> usize
@@ -43,34 +43,28 @@ fn one_alike(types: &[u32], j: usize, h: u32) -> bool
     requires { types_most + j + 8 ≤ length types.now }
     ensures { result ≡ false → Unlike types.now h j (j + 8) }
 {
-    let p = TYPES_MOST + j;
-    let a = (types[p] == h) | (types[p + 1] == h);
-    let b = (types[p + 2] == h) | (types[p + 3] == h);
-    let c = (types[p + 4] == h) | (types[p + 5] == h);
-    let d = (types[p + 6] == h) | (types[p + 7] == h);
-    (a | b) | (c | d)
+    let mut alike = false;
+    for hash in &types[TYPES_MOST + j..TYPES_MOST + j + 8] {
+        alike |= *hash == h;
+    }
+    alike
 }
 
-// A type from i to n, or n: none before it has the hash h. Eight are passed over a turn, where none of them has it, and one for
-// the rest.
-fn next_alike(types: &[u32], i: usize, n: usize, h: u32) -> usize
+// The first type from i to n with the hash h. Eight are passed over a turn, as long as none of them has it.
+fn next_alike(types: &[u32], i: usize, n: usize, h: u32) -> Option<usize>
     requires { (i ≤ n) × (types_most + n ≤ length types.now) }
-    ensures { (i ≤ result) × ((result ≤ n) × Unlike types.now h i result) }
+    ensures { MatchOption result (Unlike types.now h i n) (λ j. (i ≤ j) × ((j < n) × Unlike types.now h i j)) }
 {
-    let mut j = i;
-    'eights: while 8 <= n - j {
-        if one_alike(types, j, h) {
-            return j;
-        }
-        j += 8;
+    let mut from = i;
+    'eights: while 8 <= n - from && !one_alike(types, from, h) {
+        from += 8;
     }
-    while j < n {
+    for j in from..n {
         if types[TYPES_MOST + j] == h {
-            return j;
+            return Some(j);
         }
-        j += 1;
     }
-    n
+    None
 }
 
 // Whether one of the first n types has tag t and body b, of which the hash is given: the search is left at the first that is equal,
@@ -81,31 +75,24 @@ fn type_read(s: &[u8], types: &[u32], n: usize, t: u8, b: &[u8], hash: u32) -> b
 {
     let fixed = fixed_end(t, b);
     let mut read = false;
-    let mut i = 0;
-    'entries: while i < n {
-        let place = types[i];
-        let its_hash = types[TYPES_MOST + i];
-        i += 1;
-        if its_hash != hash {
-            i = next_alike(types, i, n, hash);
-            continue 'entries;
-        }
-        let rest = records::rest_at(s, place as usize);
+    let mut from = 0;
+    // No `for`, since the entries are not taken one after the other, but those with the hash.
+    'entries: while let Some(i) = next_alike(types, from, n, hash) {
+        from = i + 1;
+        let rest = records::rest_at(s, types[i] as usize);
         if records::tag_of(rest) != t {
             continue 'entries;
         }
         let e = records::body_of(rest);
-        if e.len() != b.len() {
+        // As the hash, this only saves time: bodies that differ are told apart at once, many bytes at a time.
+        if e != b {
             continue 'entries;
         }
-        // As the hash, this only saves time: bodies that differ are told apart eight bytes at a time.
-        if !same_up_to(e, b, 0, b.len()) {
-            continue 'entries;
-        }
+        // No iterator of the library: where the next member begins is known once this one is read.
         let mut p = fixed;
         while p < b.len() {
             let next = member_end(b, p);
-            if !same_up_to(e, b, p, next) {
+            if e[p..next] != b[p..next] {
                 continue 'entries;
             }
             p = next;
@@ -117,15 +104,14 @@ fn type_read(s: &[u8], types: &[u32], n: usize, t: u8, b: &[u8], hash: u32) -> b
 }
 
 // Whether one of the first n remaps has the group and the binding of the body b.
+#[tactic(auto, using(crate::proofs::Earlier::remap_turn, crate::proofs::Earlier::remap_end))]
 fn remap_read(s: &[u8], remaps: &[u32], n: usize, b: &[u8]) -> bool
     requires { n ≤ length remaps.now }
     ensures { result ≡ remap_read (remap_fields b.now).value (map (remap_from s.now) (take n remaps.now)) }
 {
     let mut read = false;
-    let mut k = 0;
-    'entries: while k < n {
-        let e = records::body_of(records::rest_at(s, remaps[k] as usize));
-        k += 1;
+    'entries: for &place in &remaps[..n] {
+        let e = records::body_of(records::rest_at(s, place as usize));
         if fields::u32_at(e, 0) != fields::u32_at(b, 0) {
             continue 'entries;
         }
@@ -139,6 +125,7 @@ fn remap_read(s: &[u8], remaps: &[u32], n: usize, b: &[u8]) -> bool
 }
 
 // Test 12 of a record of tag t and body b.
+#[tactic(auto, unfolding(definition::specs::Sheet::entry_of))]
 pub fn is_repeated(
     sheet: &[u8],
     remaps: &[u32],
@@ -152,11 +139,9 @@ pub fn is_repeated(
     ensures { (n : Seen) → Looked sheet.now remaps.now types.now counts n → result ≡ repeated n (entry_of (record_of tag body.now)).value }
 {
     match records::rank_of(tag) {
-        1 => false,
-        2 => remap_read(sheet, remaps, counts.remaps, body),
-        3 => type_read(sheet, types, counts.types, tag, body, hash),
-        4 => false,
-        5 => false,
+        Some(Rank::Remaps) => remap_read(sheet, remaps, counts.remaps, body),
+        Some(Rank::Types) => type_read(sheet, types, counts.types, tag, body, hash),
+        Some(Rank::Functions) => false,
         _ => false,
     }
 }

@@ -2,11 +2,19 @@
 use Rattle.std.specs.Prelude.{ℕ, ◌&&◌, List, eqb, length}
 use Rattle.definition.specs.Choice.{unless, every}
 use Rattle.definition.specs.Utf8.{name_fits}
-use Rattle.definition.specs.Sheet.{Record, Entry, Fields, entry_of}
+use Rattle.definition.specs.Sheet.{Record, Entry, Fields, TypeInner, Global, entry_of, type_fields, global_fields}
+use Rattle.fields.specs.declared.named.Named.{Named}
 use Rattle.definition.specs.Tests.{form_known, names_of, values_fit, types_named, constants_named, below}
 
 abbrev pub record_of : ℕ → List ℕ → Record
 record_of t b = record { tag = t; body = b }
+
+-- the fields of a type of tag t and of a global, behind their names
+abbrev pub type_behind : ℕ → Named → Fields TypeInner
+type_behind t b = type_fields t b.body.now b.end
+
+abbrev pub global_behind : Named → Fields Global
+global_behind b = global_fields b.body.now b.end
 
 -- tests 8 to 11 in document 01's order, where so many types and constants were read: the fields end where the body ends, and
 -- the names, the values and the references fit

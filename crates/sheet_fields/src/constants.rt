@@ -1,6 +1,8 @@
 // The fields of a constant: an arm for each tag, and for each form of a literal, in the order of document 01's list. What is no
 // constant's tag (test 5) or no form (test 10) has the fields of the last, here as in the definition.
-ghost use Rattle.std.specs.Prelude.{◌≡◌, ◌&&◌, [], ◌∷◌, ◌<◌};
+#![tactic(auto, unfolding(definition::specs::Sheet::constant_fields, definition::specs::Sheet::literal_fields))]
+
+ghost use Rattle.std.specs.Prelude.{◌≡◌, ◌&&◌, [], ◌∷◌};
 ghost use Rattle.definition.specs.Bytes.{u16_at};
 ghost use Rattle.definition.specs.Sheet.{literal_fields, constant_fields, u16s_at};
 ghost use Rattle.definition.specs.Tests.{literal_fits, expression_fits, expression_types, expression_constants, below};
@@ -13,11 +15,8 @@ fn literal_end(b: &[u8]) -> usize
 {
     match fields::u8_at(b, 0) {
         0 => 9,
-        1 => 5,
-        2 => 5,
-        3 => 5,
-        4 => 2,
-        _ => 2,
+        1 | 2 | 3 => 5,
+        4 | _ => 2,
     }
 }
 
@@ -26,11 +25,9 @@ pub fn end_of(tag: u8, body: &[u8]) -> usize
 {
     match tag {
         64 => literal_end(body),
-        65 => 2,
-        66 => 2,
+        65 | 66 => 2,
         67 => 4 + 2 * fields::u16_at(body, 2) as usize,
-        68 => 3,
-        _ => 3,
+        68 | _ => 3,
     }
 }
 
@@ -39,12 +36,8 @@ fn literal_fits(b: &[u8]) -> bool
     ensures { result ≡ literal_fits (literal_fields b.now).value }
 {
     match fields::u8_at(b, 0) {
-        0 => true,
-        1 => true,
-        2 => true,
-        3 => true,
-        4 => fields::u8_at(b, 1) <= 1,
-        _ => fields::u8_at(b, 1) <= 1,
+        0 | 1 | 2 | 3 => true,
+        4 | _ => fields::u8_at(b, 1) <= 1,
     }
 }
 
@@ -53,11 +46,8 @@ pub fn values_fit(tag: u8, body: &[u8]) -> bool
 {
     match tag {
         64 => literal_fits(body),
-        65 => true,
-        66 => true,
-        67 => true,
-        68 => size_fits(fields::u8_at(body, 0)),
-        _ => size_fits(fields::u8_at(body, 0)),
+        65 | 66 | 67 => true,
+        68 | _ => size_fits(fields::u8_at(body, 0)),
     }
 }
 
@@ -69,20 +59,10 @@ pub fn one_below(body: &[u8], at: usize, most: usize) -> bool
 }
 
 // Whether each of the n numbers from `first` on is below `most`.
-pub fn each_below(b: &[u8], first: usize, n: u16, most: usize) -> bool
-    requires { first < 1000 }
+pub fn each_below(b: &[u8], first: u16, n: u16, most: usize) -> bool
     ensures { result ≡ below most (u16s_at b.now first n) }
 {
-    let mut p = first;
-    let mut k = n;
-    while 0 < k {
-        if most <= fields::u16_at(b, p) as usize {
-            return false;
-        }
-        p += 2;
-        k -= 1;
-    }
-    true
+    (0..n as usize).all(|i| (fields::u16_at(b, first as usize + 2 * i) as usize) < most)
 }
 
 fn compose_read(b: &[u8], types: usize, constants: usize) -> bool
@@ -99,7 +79,6 @@ pub fn read_already(tag: u8, body: &[u8], types: usize, constants: usize) -> boo
         65 => one_below(body, 0, constants),
         66 => one_below(body, 0, types),
         67 => compose_read(body, types, constants),
-        68 => one_below(body, 1, constants),
-        _ => one_below(body, 1, constants),
+        68 | _ => one_below(body, 1, constants),
     }
 }

@@ -1,5 +1,7 @@
 // The fields of a function: the return type, which like an init is 65,535 for none, how many parameters there are, and the type of
 // each.
+#![tactic(auto, unfolding(definition::specs::Sheet::function_fields))]
+
 ghost use Rattle.std.specs.Prelude.{◌≡◌, ◌++◌, leb, length};
 ghost use Rattle.definition.specs.Sheet.{function_fields};
 ghost use Rattle.definition.specs.Tests.{parameters_most, init_list, below};
@@ -14,6 +16,7 @@ pub fn end_of(body: &[u8]) -> usize
 }
 
 // There are not too many parameters.
+#[tactic(auto, using(fields::proofs::Numbers::u16s_length), unfolding(definition::specs::Sheet::function_fields))]
 pub fn values_fit(body: &[u8]) -> bool
     ensures { result ≡ leb (length (function_fields body.now).value.parameters) parameters_most }
 {

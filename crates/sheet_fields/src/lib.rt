@@ -7,7 +7,6 @@
 mod constants;
 mod functions;
 mod globals;
-mod members;
 mod types;
 pub mod values;
 
@@ -16,70 +15,75 @@ ghost use Rattle.definition.specs.Bytes.{name_end};
 ghost use Rattle.definition.specs.Choice.{unless};
 ghost use Rattle.definition.specs.Sheet.{map_fields, available, available_fields, remap, remap_fields, type, type_entry, type_fields, function, function_fields, constant, constant_fields, global, global_fields};
 ghost use Rattle.definition.specs.Tests.{form_known};
+ghost use Rattle.refusals.specs.Numbers.{test_number};
 ghost use Rattle.sheet_fields.specs.Fields.{record_of, tests_of, fields_test};
 
-// ---- tests 8 to 11 of each kind: the number of the first that fails, or 0
+use fields::Named;
+use records::Rank;
+use refusals::Refusal;
+
+// ---- tests 8 to 11 of each kind: the first that fails
 
 // Capability numbers: any number of them, of any value.
-fn available_test(body: &[u8]) -> u8
-    ensures { result ≡ tests_of 0 0 body.now (map_fields available (available_fields body.now)) }
+#[tactic(auto, unfolding(definition::specs::Sheet::available_fields))]
+fn available_test(body: &[u8]) -> Result<(), Refusal>
+    ensures { test_number result ≡ tests_of 0 0 body.now (map_fields available (available_fields body.now)) }
 {
     if body.len() / 4 * 4 != body.len() {
-        return 8;
+        return Err(Refusal::FieldsEnd);
     }
-    0
+    Ok(())
 }
 
 // A size of 0 is no size.
-fn remap_test(body: &[u8]) -> u8
-    ensures { result ≡ tests_of 0 0 body.now (map_fields remap (remap_fields body.now)) }
+#[tactic(auto, unfolding(definition::specs::Sheet::remap_fields))]
+fn remap_test(body: &[u8]) -> Result<(), Refusal>
+    ensures { test_number result ≡ tests_of 0 0 body.now (map_fields remap (remap_fields body.now)) }
 {
     if 12 != body.len() {
-        return 8;
+        return Err(Refusal::FieldsEnd);
     }
     if fields::u32_at(body, 8) == 0 {
-        return 10;
+        return Err(Refusal::Value);
     }
-    0
+    Ok(())
 }
 
 // A type's own name is the first of its names. It names no constant.
-fn type_test(tag: u8, body: &[u8], types: usize) -> u8
-    ensures { result ≡ tests_of types 0 body.now (map_fields (λ i. type (type_entry (record_of tag body.now) i)) (type_fields tag body.now (name_end body.now 0))) }
+#[tactic(auto, using(crate::proofs::Laws::unless_both))]
+fn type_test(tag: u8, body: &[u8], types: usize) -> Result<(), Refusal>
+    ensures { test_number result ≡ tests_of types 0 body.now (map_fields (λ i. type (type_entry (record_of tag body.now) i)) (type_fields tag body.now (name_end body.now 0))) }
 {
-    let n = fields::name_end(body, 0);
-    if types::end_of(tag, body, n) != body.len() {
-        return 8;
+    let named = Named::new(body);
+    if types::end_of(tag, named) != body.len() {
+        return Err(Refusal::FieldsEnd);
     }
-    if !fields::name_fits(body, 0) {
-        return 9;
+    if !fields::name_fits(body, 0) || !types::names_fit(tag, named) {
+        return Err(Refusal::Name);
     }
-    if !types::names_fit(tag, body, n) {
-        return 9;
+    if !types::values_fit(tag, named) {
+        return Err(Refusal::Value);
     }
-    if !types::values_fit(tag, body, n) {
-        return 10;
+    if !types::read_already(tag, named, types) {
+        return Err(Refusal::Reference);
     }
-    if !types::read_already(tag, body, n, types) {
-        return 11;
-    }
-    0
+    Ok(())
 }
 
 // A function has no name, and names no constant.
-fn function_test(body: &[u8], types: usize) -> u8
-    ensures { result ≡ tests_of types 0 body.now (map_fields function (function_fields body.now)) }
+fn function_test(body: &[u8], types: usize) -> Result<(), Refusal>
+    ensures { test_number result ≡ tests_of types 0 body.now (map_fields function (function_fields body.now)) }
 {
     if functions::end_of(body) != body.len() {
-        return 8;
+        return Err(Refusal::FieldsEnd);
     }
     if !functions::values_fit(body) {
-        return 10;
+        return Err(Refusal::Value);
     }
     if !functions::read_already(body, types) {
-        return 11;
+        return Err(Refusal::Reference);
     }
-    0
+    Ok(())
 }
 
 // The part of test 10 that comes before test 8: a literal's form is known.
@@ -93,58 +97,59 @@ fn form_known(tag: u8, body: &[u8]) -> bool
 }
 
 // A constant has no name. Where it is a literal, its form comes before all else.
-fn constant_test(tag: u8, body: &[u8], types: usize, constants: usize) -> u8
-    ensures { result ≡ unless (form_known (record_of tag body.now)) 10 (tests_of types constants body.now (map_fields constant (constant_fields tag body.now))) }
+fn constant_test(tag: u8, body: &[u8], types: usize, constants: usize) -> Result<(), Refusal>
+    ensures { test_number result ≡ unless (form_known (record_of tag body.now)) 10 (tests_of types constants body.now (map_fields constant (constant_fields tag body.now))) }
 {
     if !form_known(tag, body) {
-        return 10;
+        return Err(Refusal::Value);
     }
     if constants::end_of(tag, body) != body.len() {
-        return 8;
+        return Err(Refusal::FieldsEnd);
     }
     if !constants::values_fit(tag, body) {
-        return 10;
+        return Err(Refusal::Value);
     }
     if !constants::read_already(tag, body, types, constants) {
-        return 11;
+        return Err(Refusal::Reference);
     }
-    0
+    Ok(())
 }
 
 // A global has its own name alone.
-fn global_test(body: &[u8], types: usize, constants: usize) -> u8
-    ensures { result ≡ tests_of types constants body.now (map_fields global (global_fields body.now (name_end body.now 0))) }
+#[tactic(auto, unfolding(definition::specs::Sheet::global_fields))]
+fn global_test(body: &[u8], types: usize, constants: usize) -> Result<(), Refusal>
+    ensures { test_number result ≡ tests_of types constants body.now (map_fields global (global_fields body.now (name_end body.now 0))) }
 {
-    let n = fields::name_end(body, 0);
-    if n + 15 != body.len() {
-        return 8;
+    let named = Named::new(body);
+    if named.end + 15 != body.len() {
+        return Err(Refusal::FieldsEnd);
     }
     if !fields::name_fits(body, 0) {
-        return 9;
+        return Err(Refusal::Name);
     }
-    if !globals::values_fit(body, n) {
-        return 10;
+    if !globals::values_fit(named) {
+        return Err(Refusal::Value);
     }
-    if !globals::read_already(body, n, types, constants) {
-        return 11;
+    if !globals::read_already(named, types, constants) {
+        return Err(Refusal::Reference);
     }
-    0
+    Ok(())
 }
 
 // ---- and of every kind
 
 // Tests 8 to 11 of a record, where so many types and constants were read, and of a literal before them whether its form is known: the
-// number of the first that fails, or 0.
-pub fn fields_test(tag: u8, body: &[u8], types: usize, constants: usize) -> u8
-    ensures { result ≡ fields_test types constants (record_of tag body.now) }
+// first that fails.
+#[tactic(auto, using(crate::proofs::Laws::no_form), unfolding(crate::specs::Fields::fields_test, definition::specs::Sheet::entry_of))]
+pub fn fields_test(tag: u8, body: &[u8], types: usize, constants: usize) -> Result<(), Refusal>
+    ensures { test_number result ≡ fields_test types constants (record_of tag body.now) }
 {
     match records::rank_of(tag) {
-        1 => available_test(body),
-        2 => remap_test(body),
-        3 => type_test(tag, body, types),
-        4 => function_test(body, types),
-        5 => constant_test(tag, body, types, constants),
-        6 => global_test(body, types, constants),
-        _ => global_test(body, types, constants),
+        Some(Rank::Available) => available_test(body),
+        Some(Rank::Remaps) => remap_test(body),
+        Some(Rank::Types) => type_test(tag, body, types),
+        Some(Rank::Functions) => function_test(body, types),
+        Some(Rank::Constants) => constant_test(tag, body, types, constants),
+        Some(Rank::Globals) | None => global_test(body, types, constants),
     }
 }

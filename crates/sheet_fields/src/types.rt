@@ -1,152 +1,116 @@
 // The fields of a type behind its name, which ends at n: an arm for each tag, in the order of document 01's list. What is no
 // type's tag, which test 5 refuses, has the fields of the last, here as in the definition.
-ghost use Rattle.std.specs.Prelude.{◌≡◌, ◌<◌};
+#![tactic(auto, unfolding(definition::specs::Sheet::type_fields))]
+
+ghost use Rattle.std.specs.Prelude.{◌≡◌};
 ghost use Rattle.definition.specs.Choice.{every};
 ghost use Rattle.definition.specs.Utf8.{name_fits};
-ghost use Rattle.definition.specs.Sheet.{type_fields};
-ghost use Rattle.definition.specs.Tests.{inner_names, inner_fits, inner_types, below};
+ghost use Rattle.definition.specs.Tests.{inner_names, inner_fits, inner_types, member_names, member_types, below};
+ghost use Rattle.sheet_fields.specs.Fields.{type_behind};
+ghost use Rattle.members.specs.Walk.{members_left};
 
 use crate::constants::one_below;
-use crate::members;
 use crate::values::{
     class_fits, float_width, pointed_size_fits, scalar_fits, size_fits, space_fits,
 };
+use fields::Named;
+use members::Members;
 
-pub fn end_of(tag: u8, body: &[u8], n: usize) -> usize
-    requires { n < 300 }
-    ensures { result ≡ (type_fields tag body.now n).end }
+pub fn end_of(tag: u8, named: Named<'_>) -> usize
+    ensures { result ≡ (type_behind tag named.entry).end }
 {
+    let n = named.end;
     match tag {
-        16 => n + 2,
-        17 => n + 3,
-        18 => n + 3,
-        19 => n + 2,
+        16 | 19 => n + 2,
+        17 | 18 => n + 3,
         20 => n + 4,
-        21 => n + 5,
+        21 | 24 => n + 5,
         22 => n + 10,
-        23 => members::end_of(body, n + 5, fields::u8_at(body, n + 4)),
-        24 => n + 5,
+        23 => Members::behind(named.body, n).end(),
         25 => n + 1,
-        26 => n,
-        27 => n,
-        28 => n + 6,
-        _ => n + 6,
+        26 | 27 => n,
+        28 | _ => n + 6,
     }
 }
 
 // Only a struct has names besides its own.
-pub fn names_fit(tag: u8, body: &[u8], n: usize) -> bool
-    requires { n < 300 }
-    ensures { result ≡ every name_fits (inner_names (type_fields tag body.now n).value) }
+pub fn names_fit(tag: u8, named: Named<'_>) -> bool
+    ensures { result ≡ every name_fits (inner_names (type_behind tag named.entry).value) }
 {
     match tag {
-        16 => true,
-        17 => true,
-        18 => true,
-        19 => true,
-        20 => true,
-        21 => true,
-        22 => true,
-        23 => members::names_fit(body, n + 5, fields::u8_at(body, n + 4)),
-        24 => true,
-        25 => true,
-        26 => true,
-        27 => true,
-        28 => true,
-        _ => true,
+        23 => member_names_fit(Members::behind(named.body, named.end)),
+        16..=22 | 24..=28 | _ => true,
     }
 }
 
-pub fn values_fit(tag: u8, body: &[u8], n: usize) -> bool
-    requires { n < 300 }
-    ensures { result ≡ inner_fits (type_fields tag body.now n).value }
+#[tactic(auto, using(definition::proofs::Passing::members_count), unfolding(definition::specs::Sheet::type_fields))]
+pub fn values_fit(tag: u8, named: Named<'_>) -> bool
+    ensures { result ≡ inner_fits (type_behind tag named.entry).value }
 {
     match tag {
-        16 => scalar_fits(fields::u8_at(body, n), fields::u8_at(body, n + 1)),
-        17 => vector_fits(body, n),
-        18 => matrix_fits(body, n),
-        19 => scalar_fits(fields::u8_at(body, n), fields::u8_at(body, n + 1)),
-        20 => space_fits(fields::u8_at(body, n + 2), fields::u8_at(body, n + 3)),
-        21 => value_pointer_fits(body, n),
-        22 => true,
-        23 => fields::u8_at(body, n + 4) <= 64,
-        24 => image_fits(body, n),
-        25 => fields::u8_at(body, n) <= 1,
-        26 => true,
-        27 => true,
-        28 => true,
-        _ => true,
+        16 | 19 => scalar_fits(named.u8_at(0), named.u8_at(1)),
+        17 => vector_fits(named),
+        18 => matrix_fits(named),
+        20 => space_fits(named.u8_at(2), named.u8_at(3)),
+        21 => value_pointer_fits(named),
+        23 => named.u8_at(4) <= 64,
+        24 => image_fits(named),
+        25 => named.u8_at(0) <= 1,
+        22 | 26 | 27 | 28 | _ => true,
     }
 }
 
 // The tags that name one type name it first.
-pub fn read_already(tag: u8, body: &[u8], n: usize, types: usize) -> bool
-    requires { n < 300 }
-    ensures { result ≡ below types (inner_types (type_fields tag body.now n).value) }
+pub fn read_already(tag: u8, named: Named<'_>, types: usize) -> bool
+    ensures { result ≡ below types (inner_types (type_behind tag named.entry).value) }
 {
     match tag {
-        16 => true,
-        17 => true,
-        18 => true,
-        19 => true,
-        20 => one_below(body, n, types),
-        21 => true,
-        22 => one_below(body, n, types),
-        23 => members::read_already(body, n + 5, fields::u8_at(body, n + 4), types),
-        24 => true,
-        25 => true,
-        26 => true,
-        27 => true,
-        28 => one_below(body, n, types),
-        _ => one_below(body, n, types),
+        16..=19 | 21 | 24..=27 => true,
+        23 => members_read_already(Members::behind(named.body, named.end), types),
+        20 | 22 | 28 | _ => one_below(named.body, named.end, types),
     }
 }
 
 // ---- the tags with several values
 
-fn vector_fits(b: &[u8], n: usize) -> bool
-    requires { n < 300 }
-    ensures { result ≡ inner_fits (type_fields 17 b.now n).value }
+fn vector_fits(named: Named<'_>) -> bool
+    ensures { result ≡ inner_fits (type_behind 17 named.entry).value }
 {
-    size_fits(fields::u8_at(b, n)) && scalar_fits(fields::u8_at(b, n + 1), fields::u8_at(b, n + 2))
+    size_fits(named.u8_at(0)) && scalar_fits(named.u8_at(1), named.u8_at(2))
 }
 
-fn matrix_fits(b: &[u8], n: usize) -> bool
-    requires { n < 300 }
-    ensures { result ≡ inner_fits (type_fields 18 b.now n).value }
+fn matrix_fits(named: Named<'_>) -> bool
+    ensures { result ≡ inner_fits (type_behind 18 named.entry).value }
 {
-    if !size_fits(fields::u8_at(b, n)) {
-        return false;
-    }
-    size_fits(fields::u8_at(b, n + 1)) && float_width(fields::u8_at(b, n + 2))
+    size_fits(named.u8_at(0)) && size_fits(named.u8_at(1)) && float_width(named.u8_at(2))
 }
 
-fn value_pointer_fits(b: &[u8], n: usize) -> bool
-    requires { n < 300 }
-    ensures { result ≡ inner_fits (type_fields 21 b.now n).value }
+fn value_pointer_fits(named: Named<'_>) -> bool
+    ensures { result ≡ inner_fits (type_behind 21 named.entry).value }
 {
-    if !pointed_size_fits(fields::u8_at(b, n)) {
-        return false;
-    }
-    if !scalar_fits(fields::u8_at(b, n + 1), fields::u8_at(b, n + 2)) {
-        return false;
-    }
-    space_fits(fields::u8_at(b, n + 3), fields::u8_at(b, n + 4))
+    pointed_size_fits(named.u8_at(0))
+        && scalar_fits(named.u8_at(1), named.u8_at(2))
+        && space_fits(named.u8_at(3), named.u8_at(4))
 }
 
-fn image_fits(b: &[u8], n: usize) -> bool
-    requires { n < 300 }
-    ensures { result ≡ inner_fits (type_fields 24 b.now n).value }
+fn image_fits(named: Named<'_>) -> bool
+    ensures { result ≡ inner_fits (type_behind 24 named.entry).value }
 {
-    if 3 < fields::u8_at(b, n) {
-        return false;
-    }
-    if 1 < fields::u8_at(b, n + 1) {
-        return false;
-    }
-    class_fits(
-        fields::u8_at(b, n + 2),
-        fields::u8_at(b, n + 3),
-        fields::u8_at(b, n + 4),
-    )
+    named.u8_at(0) <= 3
+        && named.u8_at(1) <= 1
+        && class_fits(named.u8_at(2), named.u8_at(3), named.u8_at(4))
+}
+
+// Whether each member's name is fit.
+fn member_names_fit(mut members: Members<'_>) -> bool
+    ensures { result ≡ every name_fits (member_names (members_left members.entry)) }
+{
+    members.all(|m| fields::name_fits(m.body, m.name))
+}
+
+// Whether each member's type is among the first `types`.
+fn members_read_already(mut members: Members<'_>, types: usize) -> bool
+    ensures { result ≡ below types (member_types (members_left members.entry)) }
+{
+    members.all(|m| (m.ty as usize) < types)
 }

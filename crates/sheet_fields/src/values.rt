@@ -1,4 +1,6 @@
 // Which values a field may have (test 10), each field or pair of fields by itself.
+#![tactic(auto, unfolding(definition::specs::Tests::scalar_fits, definition::specs::Tests::space_fits, definition::specs::Tests::class_fits))]
+
 ghost use Rattle.std.specs.Prelude.{◌≡◌, ◌||◌, [], ◌∷◌, eqb};
 ghost use Rattle.definition.specs.Choice.{among};
 ghost use Rattle.definition.specs.Tests.{scalar_fits, size_fits, float_width, space_fits, class_fits};
@@ -6,32 +8,20 @@ ghost use Rattle.definition.specs.Tests.{scalar_fits, size_fits, float_width, sp
 fn int_width(w: u8) -> bool
     ensures { result ≡ among w (1 ∷ 2 ∷ 4 ∷ 8 ∷ []) }
 {
-    match w {
-        1 => true,
-        2 => true,
-        4 => true,
-        8 => true,
-        _ => false,
-    }
+    matches!(w, 1 | 2 | 4 | 8)
 }
 
 pub fn float_width(w: u8) -> bool
     ensures { result ≡ float_width w }
 {
-    match w {
-        2 => true,
-        4 => true,
-        8 => true,
-        _ => false,
-    }
+    matches!(w, 2 | 4 | 8)
 }
 
 pub fn scalar_fits(kind: u8, width: u8) -> bool
     ensures { result ≡ scalar_fits kind width }
 {
     match kind {
-        0 => int_width(width),
-        1 => int_width(width),
+        0 | 1 => int_width(width),
         2 => float_width(width),
         3 => width == 1,
         _ => false,
@@ -41,33 +31,21 @@ pub fn scalar_fits(kind: u8, width: u8) -> bool
 pub fn size_fits(n: u8) -> bool
     ensures { result ≡ size_fits n }
 {
-    match n {
-        2..=4 => true,
-        _ => false,
-    }
+    (2..=4).contains(&n)
 }
 
 // The size of a value pointer: 0 for none.
 pub fn pointed_size_fits(n: u8) -> bool
     ensures { result ≡ (eqb n 0 || size_fits n) }
 {
-    if n == 0 {
-        return true;
-    }
-    size_fits(n)
+    n == 0 || size_fits(n)
 }
 
 // Only Storage, 4, has an access.
 pub fn space_fits(space: u8, access: u8) -> bool
     ensures { result ≡ space_fits space access }
 {
-    if 6 < space {
-        return false;
-    }
-    if space == 4 {
-        return access <= 3;
-    }
-    access == 0
+    space <= 6 && access <= if space == 4 { 3 } else { 0 }
 }
 
 pub fn class_fits(class: u8, x: u8, y: u8) -> bool

@@ -1,4 +1,5 @@
 pub mod Given
 pub mod Rooms
+pub mod Comes
 pub mod Turns
 pub mod Loop

@@ -1,11 +1,11 @@
 -- The loop over the records: some state is held, and what is left of the sheet, from here and with what was read, comes to
 -- what the whole comes to. How the loop begins, one turn, and its ways out, each an instance of the laws for any state.
 use Prim.Native.Nat.{ℕ, ◌+◌, ◌-◌, ◌≤◌, ◌<◌}
-use mathlib.Core.Path.{◌≡◌, refl, sym, ◌∙◌, subst}
+use mathlib.Core.Path.{◌≡◌, refl, sym, ap, ◌∙◌, subst}
 use mathlib.Core.Bool.{true, false}
 use mathlib.Core.Logic.{⊎_elim}
 use mathlib.Core.List.{List, []}
-use mathlib.Core.Option.{none}
+use Rattle.std.specs.Prelude.{None}
 use native.Mathlib.Omega.{arith}
 use lib.ListN.{length, drop, get_or, length-drop}
 use lib.Seq.{length-take-le}
@@ -32,7 +32,10 @@ use Rattle.zeroable.proofs.Kept.{grows, empty as nothing_known}
 use Rattle.writer.specs.declared.Writer.{Writer}
 use Rattle.writer.specs.Held.{Held, Room, Grown}
 use Rattle.writer.specs.Steps.{fresh}
-use Rattle.sheet_writer.specs.declared.RecordOutcome.{RecordOutcome}
+use Rattle.std.specs.Prelude.{Result, Ok, Err}
+use Rattle.refusals.specs.declared.Refusal.{Refusal}
+use Rattle.refusals.specs.Numbers.{number_of, test_number}
+use Rattle.refusals.proofs.Tests.{not_zero}
 use Rattle.sheet_writer.specs.Turning.{Before, Ready, RecordWritten, cost_at}
 use Rattle.sheet_writer.specs.Whole.{records_of, before_bound, Capacity, GlobalsFit, SheetFits}
 use Rattle.sheet_writer.proofs.Given.{global_long}
@@ -57,7 +60,6 @@ pub record Holds (s T₀ S₀ m₀ : List ℕ) (p₀ : Places) (nr nb : ℕ) (T 
   pub functions : List Function
   pub function_count : length functions ≡ k.functions
   pub available : Flagged (seen_of s p k functions).available v
-  pub late : 0 < at
   pub small : length s ≤ 16384
   pub used : Used nr nb at k w
   pub memo : Memo (seen_of s p k functions).types m
@@ -70,7 +72,7 @@ pub record Holds (s T₀ S₀ m₀ : List ℕ) (p₀ : Places) (nr nb : ℕ) (T 
 pub before : (s : List ℕ) (p : Places) (k : Counts) (fs : List Function) (v : Available) → Ample p → WithinLimits k → length fs ≡ k.functions → Flagged (seen_of s p k fs).available v → Before s p.remaps p.types k v (seen_of s p k fs)
 before s p k fs v a f e h = record { looked = looked s p k fs a f e; available = h }
 
-pub begins : (s T S m : List ℕ) (p : Places) (nr nb start' : ℕ) (k : Counts) (v : Available) (w : Writer) → header_test s ≡ 0 → Ample p → ((j : ℕ) → get_or m j 0 ≡ 0) → k ≡ no_counts → Flagged none v
+pub begins : (s T S m : List ℕ) (p : Places) (nr nb start' : ℕ) (k : Counts) (v : Available) (w : Writer) → header_test s ≡ 0 → Ample p → ((j : ℕ) → get_or m j 0 ≡ 0) → k ≡ no_counts → Flagged None v
     → start' ≡ start_of s → start' ≤ 4294967295 → w ≡ fresh nr nb start' → Held w T S (empty start') → Holds s T S m p nr nb T S m p 6 k v w
 unfolding space_fits binding_fits
 begins s T S m p nr nb start' k v w h a e ek ev es low ew held =
@@ -89,7 +91,6 @@ begins s T S m p nr nb start' k v w h a e ek ev es low ew held =
       functions = [];
       function_count = refl;
       available = ev;
-      late = omega arith;
       small = z.1;
       used = rw ew (omega arith);
       memo = nothing_known [] m (omega arith) e;
@@ -192,34 +193,34 @@ module _ (s T₀ S₀ m₀ : List ℕ) (p₀ : Places) (nr nb : ℕ) (T S m : Li
         room = λ z. (tested_room z).0;
       }
 
-      module _ (t : RecordOutcome) (T' S' m' : List ℕ) (turn : RecordWritten s p.remaps p.types k v rest o w T S t T' S' m') where
+      module _ (t : Result Writer Refusal) (T' S' m' : List ℕ) (turn : RecordWritten s p.remaps p.types k v rest o w T S t T' S' m') where
         -- the definition's own test, in the state that is held
-        tested : t.refused ≡ record_test now (record_at (drop at s))
+        tested : test_number t ≡ record_test now (record_at (drop at s))
         tested = rw (← e) (turn.told seen (before s p k h.functions v h.ample h.few h.function_count h.available) h.state h.held)
 
-        pub refuses : (t.refused ≡ 0 → ⊥) → refused t.refused ≡ before_bound s
-        refuses f = ends_refused record_test (declare_record o) (records_of s) s at now h.going lt whole_record t.refused tested f ∙ judged
+        pub refuses : (r : Refusal) → t ≡ Err r → refused (number_of r) ≡ before_bound s
+        refuses r q = ends_refused record_test (declare_record o) (records_of s) s at now h.going lt whole_record (number_of r) (sym (ap test_number q) ∙ tested) (not_zero r) ∙ judged
 
-        module _ (z : t.refused ≡ 0) where
+        module _ (written : Writer) (z : t ≡ Ok written) where
           read : reading_test seen (record_at (drop at s)) ≡ 0
           unfolding record_test
-          read = (first_passed (reading_test seen (record_at (drop at s))) _ (sym tested ∙ z)).0
+          read = (first_passed (reading_test seen (record_at (drop at s))) _ (sym tested ∙ ap test_number z)).0
 
           pub passed : PassedAt s p k at
-          passed = record { ample = h.ample; few = h.few; hashed = h.hashed; late = h.late; small = omega (arith, h.small); functions = h.functions; counted = h.function_count; tested = read }
+          passed = record { ample = h.ample; few = h.few; hashed = h.hashed; small = omega (arith, h.small); functions = h.functions; counted = h.function_count; tested = read }
 
           pub turns : (p' : Places) (k' : Counts) (v' : Available) (at' : ℕ) → Kept s p k at p' k' → ((n : Seen) → Flagged n.available v → Flagged (add_record n (record_at rest)).available v') → at' ≡ at + (2 + u16_at rest 0)
               → length T' ≡ length T → length S' ≡ length S → length m' ≡ length m
               → length p'.remaps ≡ length p.remaps → length p'.types ≡ length p.types → length p'.constants ≡ length p.constants → length p'.globals ≡ length p.globals
-              → Holds s T₀ S₀ m₀ p₀ nr nb T' S' m' p' at' k' v' t.writer
+              → Holds s T₀ S₀ m₀ p₀ nr nb T' S' m' p' at' k' v' written
           unfolding declare_record add_record
           turns p' k' v' at' a av ea l_t l_s lm lr lt' lc lg =
               let fs = (add_record seen (record_from s at)).functions in
               let counts : length fs ≡ k'.functions = a.functions h.functions h.function_count in
               let b = looked s p k h.functions h.ample h.few h.function_count in
-              let y = turn.written z in
+              let y = turn.written written z in
               let x = declare_entry o seen (entry_of (record_at (drop at s))).value h.state in
-              let u = (tested_room (rw e read)).1 t.writer y.grown in
+              let u = (tested_room (rw e read)).1 written y.grown in
               let en : at' ≡ at + l = omega (arith, ea, (record_length rest one).0) in
               let places : length (seen_of s p' k' fs).types ≤ length m' = omega (arith, (counted s p' k' fs a.ample a.few counts).types, a.few.types, lm, h.memo-length, cap.memo-length) in
               record {
@@ -236,12 +237,11 @@ module _ (s T₀ S₀ m₀ : List ℕ) (p₀ : Places) (nr nb : ℕ) (T S m : Li
                 functions = fs;
                 function_count = counts;
                 available = subst (λ (n : Seen). Flagged n.available v') (sym (a.seen h.functions)) (subst (λ (i : List ℕ). Flagged (add_record seen (record_at i)).available v') e (av seen h.available));
-                late = omega (arith, ea, h.late);
                 small = h.small;
                 used = rw (en, a.counts, ← e) u;
                 memo = subst (λ (n : Seen). Memo n.types m') (sym (a.seen h.functions)) (memo_added seen (tag_rank (record_from s at).tag) (entry_of (record_from s at)).value m' (subst (λ (n : Seen). length n.types ≤ length m') (a.seen h.functions) places) turn.memo);
                 globals_fit = subst GlobalsFit (sym (a.seen h.functions)) (fits_added seen (tag_rank (record_from s at).tag) (entry_of (record_from s at)).value (told seen (record_from s at) (entry_of (record_from s at)) refl read).values h.globals_fit);
                 state = x;
-                held = subst (λ (i : List ℕ). Held t.writer T' S' (declare_entry o seen (entry_of (record_at i)).value h.state)) e (y.held seen b h.state h.held);
-                going = rw (ea, e, a.seen h.functions) (goes_on record_test (declare_record o) (records_of s) s at now h.going lt whole_record (sym tested ∙ z));
+                held = subst (λ (i : List ℕ). Held written T' S' (declare_entry o seen (entry_of (record_at i)).value h.state)) e (y.held seen b h.state h.held);
+                going = rw (ea, e, a.seen h.functions) (goes_on record_test (declare_record o) (records_of s) s at now h.going lt whole_record (sym tested ∙ ap test_number z));
               }

@@ -36,7 +36,10 @@ use Rattle.definition.specs.Sheet as Defined
 use Rattle.records.specs.Places.{types_from, remap_from, type_of_record as record_type}
 use Rattle.availability.specs.declared.Available.{Available}
 use Rattle.zeroable.specs.Memo.{Memo}
-use Rattle.sheet_writer.specs.declared.RecordOutcome.{RecordOutcome}
+use Rattle.std.specs.Prelude.{Result, Ok}
+use Rattle.refusals.specs.declared.Refusal.{Refusal}
+use Rattle.refusals.specs.Numbers.{test_number}
+use Rattle.refusals.proofs.Tests.{ok_same}
 use Rattle.sheet_writer.specs.Turning.{Before, Ready, TestsType, TestsUnfit, ComesTo, EntryWritten, RecordWritten, entry_cost, cost_at}
 use Rattle.sheet_writer.proofs.Given.{type_of, constant_of, global_of, is_type, is_constant, is_global, is_available_lem, is_remap}
 
@@ -120,65 +123,65 @@ module _ {s rs ts : List ℕ} {k : Counts} {rest : List ℕ} {i : ℕ} {T S m : 
 
     module _ (o : Options) (a : Available) {T' S' m' : List ℕ} where
       -- its entry's test decides, since those before passed, and its entry is what is written
-      comes : (c : RecordOutcome) → Memo us m' → ((n : Seen) → Before s rs ts k a n → (x : State) → Held w T S x → c.refused ≡ fitness_test n x (entry_of r).value)
-          → (c.refused ≡ 0 → EntryWritten s rs ts k rest o w T S c.writer T' S') → RecordWritten s rs ts k a rest o w T S c T' S' m'
+      comes : (c : Result Writer Refusal) → Memo us m' → ((n : Seen) → Before s rs ts k a n → (x : State) → Held w T S x → test_number c ≡ fitness_test n x (entry_of r).value)
+          → ((v : Writer) → c ≡ Ok v → EntryWritten s rs ts k rest o w T S v T' S') → RecordWritten s rs ts k a rest o w T S c T' S' m'
       unfolding record_test
       comes c memo f g = record {
         memo = memo;
-        told = λ n b x h. first_go q (reading_test n r) _ c.refused (reads n b.looked) passed (f n b x h);
+        told = λ n b x h. first_go q (reading_test n r) _ (test_number c) (reads n b.looked) passed (f n b x h);
         written = g;
       }
 
-      pub type_comes : tag_rank r.tag ≡ 3 → {c : RecordOutcome} → Memo us m' → ComesTo (TestsType a r) (λ v. Kept (record_cost 1 l) (declare_type o.debug us (record_type r)) w T S v T' S') c
+      pub type_comes : tag_rank r.tag ≡ 3 → {c : Result Writer Refusal} → Memo us m' → ComesTo (TestsType a r) (λ v. Kept (record_cost 1 l) (declare_type o.debug us (record_type r)) w T S v T' S') c
           → RecordWritten s rs ts k a rest o w T S c T' S' m'
       unfolding fitness_test
-      type_comes e {c = c} memo d = comes c memo (λ n b x h. d.told n.available b.available ∙ sym (ap (λ (f : Fields Entry). fitness_test n x f.value) (is_type r e))) (λ z. record {
-        grown = rw e (d.written z).grown;
-        held = λ n b x h. let u = sym b.types in subst (Held c.writer T' S')
-            ((λ j. declare_type o.debug (u j) (record_type r) x) ∙ sym (ap (λ (f : Fields Entry). declare_entry o n f.value x) (is_type r e))) ((d.written z).held x h);
+      type_comes e {c = c} memo d = comes c memo (λ n b x h. d.told n.available b.available ∙ sym (ap (λ (f : Fields Entry). fitness_test n x f.value) (is_type r e))) (λ v z. record {
+        grown = rw e (d.written v z).grown;
+        held = λ n b x h. let u = sym b.types in subst (Held v T' S')
+            ((λ j. declare_type o.debug (u j) (record_type r) x) ∙ sym (ap (λ (f : Fields Entry). declare_entry o n f.value x) (is_type r e))) ((d.written v z).held x h);
       })
 
       -- a function record has no test of its own
       pub function_comes : tag_rank r.tag ≡ 4 → Memo us m' → {v : Writer} → FunctionWritten (function_cost (u8_at r.body 2)) (function_fields r.body).value w T S v T' S'
-          → RecordWritten s rs ts k a rest o w T S (record { refused = 0; writer = v }) T' S' m'
+          → RecordWritten s rs ts k a rest o w T S (Ok v) T' S' m'
       unfolding fitness_test
-      function_comes e memo {v = v} d = comes (record { refused = 0; writer = v }) memo (λ n b x h. sym (ap (λ (f : Fields Entry). fitness_test n x f.value) (is_function r e))) (λ z. record {
+      function_comes e memo {v = v} d = comes (Ok v) memo (λ n b x h. sym (ap (λ (f : Fields Entry). fitness_test n x f.value) (is_function r e))) (λ u z. subst (λ (y : Writer). EntryWritten s rs ts k rest o w T S y T' S') (ok_same v u z) (record {
         grown = let h = function_whole ready.seen r e tested in rw e (omega (arith, d.grown, h));
         held = λ n b x h. subst (Held v T' S') (sym (ap (λ (f : Fields Entry). declare_entry o n f.value x) (is_function r e))) (d.held x h);
-      })
+      }))
 
-      pub constant_comes : tag_rank r.tag ≡ 5 → {c : RecordOutcome} → Memo us m'
+      pub constant_comes : tag_rank r.tag ≡ 5 → {c : Result Writer Refusal} → Memo us m'
           → ComesTo (TestsUnfit (λ x. constant_fits us x (Defined.constant_fields r.tag r.body).value) w T) (λ v. ConstantWritten (record_cost 0 l) us (Defined.constant_fields r.tag r.body).value w T S v T' S') c
           → RecordWritten s rs ts k a rest o w T S c T' S' m'
       unfolding fitness_test
       constant_comes e {c = c} memo d = comes c memo (λ n b x h.
           d.told S x h ∙ ap (λ (vs : List Defined.TypeEntry). unless (constant_fits vs x (Defined.constant_fields r.tag r.body).value) 13 0) (sym b.looked.types)
-          ∙ sym (ap (λ (f : Fields Entry). fitness_test n x f.value) (is_constant r e))) (λ z. record {
-            grown = rw e (d.written z).grown;
-            held = λ n b x h. let u = sym b.types in subst (Held c.writer T' S')
-                ((λ j. declare_constant (u j) (Defined.constant_fields r.tag r.body).value x) ∙ sym (ap (λ (f : Fields Entry). declare_entry o n f.value x) (is_constant r e))) ((d.written z).held x h);
+          ∙ sym (ap (λ (f : Fields Entry). fitness_test n x f.value) (is_constant r e))) (λ v z. record {
+            grown = rw e (d.written v z).grown;
+            held = λ n b x h. let u = sym b.types in subst (Held v T' S')
+                ((λ j. declare_constant (u j) (Defined.constant_fields r.tag r.body).value x) ∙ sym (ap (λ (f : Fields Entry). declare_entry o n f.value x) (is_constant r e))) ((d.written v z).held x h);
           })
 
-      pub global_comes : tag_rank r.tag ≡ 6 → {c : RecordOutcome} → Memo us m'
+      pub global_comes : tag_rank r.tag ≡ 6 → {c : Result Writer Refusal} → Memo us m'
           → ComesTo (TestsUnfit (λ x. global_fits us x (global_in r.body)) w T) (λ v. GlobalKept (record_cost 2 l) o us (map (remap_from s) (take k.remaps rs)) (global_in r.body) w T S v T' S') c
           → RecordWritten s rs ts k a rest o w T S c T' S' m'
       unfolding fitness_test
       global_comes e {c = c} memo d = comes c memo (λ n b x h.
           d.told S x h ∙ ap (λ (vs : List Defined.TypeEntry). unless (global_fits vs x (global_in r.body)) 13 0) (sym b.looked.types)
-          ∙ sym (ap (λ (f : Fields Entry). fitness_test n x f.value) (is_global r e))) (λ z. record {
-            grown = rw e (d.written z).grown;
-            held = λ n b x h. subst (Held c.writer T' S')
-                (sym (ap (λ (f : Fields Entry). declare_entry o n f.value x) (is_global r e))) ((d.written z).held n b.types b.remaps x h);
+          ∙ sym (ap (λ (f : Fields Entry). fitness_test n x f.value) (is_global r e))) (λ v z. record {
+            grown = rw e (d.written v z).grown;
+            held = λ n b x h. subst (Held v T' S')
+                (sym (ap (λ (f : Fields Entry). declare_entry o n f.value x) (is_global r e))) ((d.written v z).held n b.types b.remaps x h);
           })
 
     -- Available and Remap: neither a test nor a declaration
-    pub other_comes : (o : Options) (a : Available) → (j : ℕ) → j ≡ tag_rank r.tag → (j ≡ 3 → ⊥) → (j ≡ 4 → ⊥) → (j ≡ 5 → ⊥) → (j ≡ 6 → ⊥) → RecordWritten s rs ts k a rest o w T S (record { refused = 0; writer = w }) T S m
+    pub other_comes : (o : Options) (a : Available) → (j : ℕ) → j ≡ tag_rank r.tag → (j ≡ 3 → ⊥) → (j ≡ 4 → ⊥) → (j ≡ 5 → ⊥) → (j ≡ 6 → ⊥) → RecordWritten s rs ts k a rest o w T S (Ok w) T S m
     unfolding fitness_test
-    other_comes o a j e f g h i = comes o a (record { refused = 0; writer = w }) ready.memo
-        (λ n b x y. other (λ (z : Entry). 0 ≡ fitness_test n x z) (λ cs. refl) (λ v. refl) j e f g h i) (λ z. record {
+    other_comes o a j e f g h i = comes o a (Ok w) ready.memo
+        (λ n b x y. other (λ (z : Entry). 0 ≡ fitness_test n x z) (λ cs. refl) (λ v. refl) j e f g h i) (λ u z. subst (λ (y : Writer). EntryWritten s rs ts k rest o w T S y T S) (ok_same w u z) (record {
           grown = still;
           held = λ n b x y. other (λ (v : Entry). Held w T S (declare_entry o n v x)) (λ cs. y) (λ v. y) j e f g h i;
-        })
+        }))
       where
         still : Grown (cost_at rest) w w
         still = omega arith

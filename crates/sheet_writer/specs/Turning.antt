@@ -1,6 +1,6 @@
 -- A record's turn: what is asked before it, and what it promises.
 use Rattle.std.specs.Prelude.{ℕ, ◌+◌, ◌≤◌, ◌≡◌, Bool, List, eqb, length}
-use Rattle.std.proofs.Math.Option.{Option}
+use Rattle.std.specs.Prelude.{Option, Result, Ok}
 use Rattle.definition.specs.Bytes.{name_end}
 use Rattle.definition.specs.Choice.{pick, unless}
 use Rattle.definition.specs.Sheet.{Record, Options, record_at, type_fields, entry_of, tag_rank}
@@ -20,7 +20,8 @@ use Rattle.availability.specs.Flags.{Flagged}
 use Rattle.writer.specs.declared.Writer.{Writer}
 use Rattle.writer.specs.Cost.{Cost, no_cost, a_composite, record_cost, ◌⊕◌}
 use Rattle.writer.specs.Held.{Held, Room, Grown}
-use Rattle.sheet_writer.specs.declared.RecordOutcome.{RecordOutcome}
+use Rattle.refusals.specs.declared.Refusal.{Refusal}
+use Rattle.refusals.specs.Numbers.{test_number}
 
 -- n is what was read: its counts, remaps and types, and what is available
 pub record Before (s rs ts : List ℕ) (k : Counts) (a : Available) (n : Seen) : Type 0 where
@@ -60,18 +61,18 @@ TestsType a r q = (o : Option (List ℕ)) → Flagged o a → q ≡ unless (shap
 abbrev pub TestsUnfit : (State → Bool) → Writer → List ℕ → ℕ → Type 0
 TestsUnfit fits w T q = (S : List ℕ) (x : State) → Held w T S x → q ≡ unless (fits x) 13 0
 
--- what a record of one kind comes to: the number that its own test answers, and where that is 0 its entry is written
-pub record ComesTo (Tests : ℕ → Type 0) (Writes : Writer → Type 0) (r : RecordOutcome) : Type 0 where
-  pub told : Tests r.refused
-  pub written : r.refused ≡ 0 → Writes r.writer
+-- what a record of one kind comes to: its own test answers, and where it is passed the entry is written
+pub record ComesTo (Tests : ℕ → Type 0) (Writes : Writer → Type 0) (r : Result Writer Refusal) : Type 0 where
+  pub told : Tests (test_number r)
+  pub written : (v : Writer) → r ≡ Ok v → Writes v
 
 -- the record's entry is declared
 pub record EntryWritten (s rs ts : List ℕ) (k : Counts) (rest : List ℕ) (o : Options) (w : Writer) (T S : List ℕ) (v : Writer) (T' S' : List ℕ) : Type 0 where
   pub grown : Grown (cost_at rest) w v
   pub held : (n : Seen) → Looked s rs ts k n → (x : State) → Held w T S x → Held v T' S' (declare_entry o n (entry_of (record_at rest)).value x)
 
--- the turn whole: the number that the definition's test answers, and where that is 0 the entry is declared
-pub record RecordWritten (s rs ts : List ℕ) (k : Counts) (a : Available) (rest : List ℕ) (o : Options) (w : Writer) (T S : List ℕ) (r : RecordOutcome) (T' S' m' : List ℕ) : Type 0 where
+-- the turn whole: it answers as the definition's test, and where that is passed the entry is declared
+pub record RecordWritten (s rs ts : List ℕ) (k : Counts) (a : Available) (rest : List ℕ) (o : Options) (w : Writer) (T S : List ℕ) (r : Result Writer Refusal) (T' S' m' : List ℕ) : Type 0 where
   pub memo : Memo (types_from s ts k.types) m'
-  pub told : (n : Seen) → Before s rs ts k a n → (x : State) → Held w T S x → r.refused ≡ record_test (record { seen = n; state = x }) (record_at rest)
-  pub written : r.refused ≡ 0 → EntryWritten s rs ts k rest o w T S r.writer T' S'
+  pub told : (n : Seen) → Before s rs ts k a n → (x : State) → Held w T S x → test_number r ≡ record_test (record { seen = n; state = x }) (record_at rest)
+  pub written : (v : Writer) → r ≡ Ok v → EntryWritten s rs ts k rest o w T S v T' S'

@@ -8,8 +8,9 @@ use Rattle.records.specs.Places.{Places, seen_of, Ample, WithinLimits}
 use Rattle.writer.specs.declared.Writer.{Writer}
 use Rattle.writer.specs.Cost.{no_cost}
 use Rattle.writer.specs.Held.{Held, Room}
-use Rattle.sheet_writer.specs.declared.Outcome.{Outcome}
-use Rattle.sheet_writer.specs.declared.Outcome.TheVariants.{Refused, Fit}
+use Rattle.std.specs.Prelude.{Result, Ok, Err}
+use Rattle.refusals.specs.declared.Refusal.{Refusal}
+use Rattle.refusals.specs.Numbers.{number_of}
 
 -- the records, tested and declared in the sheet's order
 abbrev pub records_of : List ℕ → Judged Progress
@@ -49,6 +50,6 @@ pub record SheetFits (s : List ℕ) (bytes : ℕ) (p : Places) (T S : List ℕ) 
   pub size : w.bytes ≡ bytes
 
 -- the answer is the definition's
-abbrev pub SheetWritten : List ℕ → ℕ → Places → List ℕ → List ℕ → Outcome → Type 0
-SheetWritten s bytes p T S (Refused n) = refused n ≡ before_bound s
-SheetWritten s bytes p T S (Fit k w) = SheetFits s bytes p T S k w
+abbrev pub SheetWritten : List ℕ → ℕ → Places → List ℕ → List ℕ → Result (Counts × Writer) Refusal → Type 0
+SheetWritten s bytes p T S (Err r) = refused (number_of r) ≡ before_bound s
+SheetWritten s bytes p T S (Ok (k, w)) = SheetFits s bytes p T S k w

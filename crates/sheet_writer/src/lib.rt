@@ -3,7 +3,7 @@
 #![tactic(auto)]
 
 ghost use Rattle.std.specs.Prelude.{◌≡◌, List, map, ℕ, ◌+◌, ◌<◌, ◌≤◌, length, take};
-ghost use Rattle.std.proofs.Math.Option.{Option};
+ghost use Rattle.std.specs.Prelude.{Option};
 ghost use Rattle.definition.specs.Sheet.{type_fields, constant_fields};
 ghost use Rattle.definition.specs.Shapes.{shape_of};
 ghost use Rattle.definition.specs.Rules.{declare_type};
@@ -27,7 +27,8 @@ ghost use Rattle.sheet_writer.specs.Whole.{Capacity, SheetWritten};
 
 use availability::Available;
 use entries::types::TypeInner;
-use records::{Counts, Options};
+use records::{Counts, Options, Rank};
+use refusals::Refusal;
 use sheet::{hash, holding};
 use writer::Writer;
 use writer_constants::expressions::write_constant_expr;
@@ -35,20 +36,6 @@ use writer_constants::fitness::expression_fits;
 use writer_functions::write_function_type;
 use writer_globals::fitness::global_fits;
 use writer_types::write_type_declaration_arena;
-
-// What a record's turn comes to: the number of the first test that fails, or 0 and the writer after its declaration.
-#[derive(Clone, Copy)]
-pub struct RecordOutcome {
-    pub refused: u8,
-    pub writer: Writer,
-}
-
-// What a sheet comes to, but for its bound: the number of its refusal, or what was read and the writer.
-#[derive(Clone, Copy)]
-pub enum Outcome {
-    Refused(u8),
-    Fit(Counts, Writer),
-}
 
 // Test 14 of a type of a tag, taken as `ty`. Where no type of the tag can fail it, nothing is asked.
 fn type_fits(available: Available, tag: u8, ty: TypeInner) -> bool
@@ -72,22 +59,15 @@ fn write_type(
     tag: u8,
     body: &[u8],
     debug: bool,
-) -> RecordOutcome
+) -> Result<Writer, Refusal>
     requires { (n ≤ length types.now) × ((n < 65536) × (TypeTested (record_of tag body.now) × Room (record_cost 1 (length body.now + 3)) w tables.old sections.old)) }
     ensures { ComesTo (TestsType available (record_of tag body.now)) (λ v. Kept (record_cost 1 (length body.now + 3)) (declare_type debug (types_from s.now types.now n) (type_of_record (record_of tag body.now))) w tables.old sections.old v tables.new sections.new) result }
 {
     let ty = entries::types::inner_of(tag, body);
     if !type_fits(available, tag, ty) {
-        return RecordOutcome {
-            refused: 14,
-            writer: w,
-        };
+        return Err(Refusal::Unavailable);
     }
-    let v = write_type_declaration_arena(tables, sections, w, s, types, n, body, ty, debug);
-    RecordOutcome {
-        refused: 0,
-        writer: v,
-    }
+    Ok(write_type_declaration_arena(tables, sections, w, s, types, n, body, ty, debug))
 }
 
 // The same of a constant: test 13, then its declaration.
@@ -101,22 +81,15 @@ fn write_constant(
     n: usize,
     tag: u8,
     body: &[u8],
-) -> RecordOutcome
+) -> Result<Writer, Refusal>
     requires { (n ≤ length types.now) × (ConstantTested n (record_of tag body.now) × (Room (record_cost 0 (length body.now + 3)) w tables.old sections.old × Memo (types_from s.now types.now n) memo.old)) }
     ensures { ComesTo (TestsUnfit (λ x. constant_fits (types_from s.now types.now n) x (constant_fields tag body.now).value) w tables.old) (λ v. ConstantWritten (record_cost 0 (length body.now + 3)) (types_from s.now types.now n) (constant_fields tag body.now).value w tables.old sections.old v tables.new sections.new) result × Memo (types_from s.now types.now n) memo.new }
 {
     let expr = entries::constants::expression_of(tag, body);
     if !expression_fits(tables, w, s, types, n, memo, body, expr) {
-        return RecordOutcome {
-            refused: 13,
-            writer: w,
-        };
+        return Err(Refusal::Unfit);
     }
-    let v = write_constant_expr(tables, sections, w, s, types, n, body, expr);
-    RecordOutcome {
-        refused: 0,
-        writer: v,
-    }
+    Ok(write_constant_expr(tables, sections, w, s, types, n, body, expr))
 }
 
 // The same of a global, which has one tag.
@@ -131,24 +104,17 @@ fn write_global(
     k: Counts,
     body: &[u8],
     options: Options,
-) -> RecordOutcome
+) -> Result<Writer, Refusal>
     requires { (k.types ≤ length types.now) × ((k.remaps ≤ length remaps.now) × (GlobalTested k.types body.now × (Room (record_cost 2 (length body.now + 3)) w tables.old sections.old × Memo (types_from s.now types.now k.types) memo.old))) }
     ensures { ComesTo (TestsUnfit (λ x. global_fits (types_from s.now types.now k.types) x (global_in body.now)) w tables.old) (λ v. GlobalKept (record_cost 2 (length body.now + 3)) (options_from options) (types_from s.now types.now k.types) (map (remap_from s.now) (take k.remaps remaps.now)) (global_in body.now) w tables.old sections.old v tables.new sections.new) result × Memo (types_from s.now types.now k.types) memo.new }
 {
     let global = entries::globals::global_of(body);
     if !global_fits(tables, w, s, types, k.types, memo, global) {
-        return RecordOutcome {
-            refused: 13,
-            writer: w,
-        };
+        return Err(Refusal::Unfit);
     }
-    let v = writer_globals::write_global(
+    Ok(writer_globals::write_global(
         tables, sections, w, s, types, remaps, k, body, global, options,
-    );
-    RecordOutcome {
-        refused: 0,
-        writer: v,
-    }
+    ))
 }
 
 // The turn of the record at the front of what is left: tests 5 to 12, then those of its kind and its declaration. A type's hash is
@@ -166,21 +132,15 @@ fn write_record(
     rest: &[u8],
     hash: u32,
     options: Options,
-) -> RecordOutcome
+) -> Result<Writer, Refusal>
     requires { Ready s.now remaps.now types.now k rest.now hash tables.old sections.old memo.old w }
     ensures { RecordWritten s.now remaps.now types.now k available rest.now (options_from options) w tables.old sections.old result tables.new sections.new memo.new }
 {
-    let r = sheet::record_test(s, remaps, types, k, rest, hash);
-    if r != 0 {
-        return RecordOutcome {
-            refused: r,
-            writer: w,
-        };
-    }
+    sheet::record_test(s, remaps, types, k, rest, hash)?;
     let tag = records::tag_of(rest);
     let body = records::body_of(rest);
     match records::rank_of(tag) {
-        3 => write_type(
+        Some(Rank::Types) => write_type(
             tables,
             sections,
             w,
@@ -192,18 +152,16 @@ fn write_record(
             body,
             options.debug,
         ),
-        4 => RecordOutcome {
-            refused: 0,
-            writer: write_function_type(tables, sections, w, body),
-        },
-        5 => write_constant(tables, sections, memo, w, s, types, k.types, tag, body),
-        6 => write_global(
+        Some(Rank::Functions) => Ok(write_function_type(tables, sections, w, body)),
+        Some(Rank::Constants) => {
+            write_constant(tables, sections, memo, w, s, types, k.types, tag, body)
+        }
+        Some(Rank::Globals) => write_global(
             tables, sections, memo, w, s, remaps, types, k, body, options,
         ),
-        _ => RecordOutcome {
-            refused: 0,
-            writer: w,
-        },
+        Some(Rank::Available) => Ok(w),
+        Some(Rank::Remaps) => Ok(w),
+        None => Ok(w),
     }
 }
 
@@ -221,14 +179,11 @@ pub fn write_sheet(
     sheet: &[u8],
     nrecords: usize,
     nbytes: usize,
-) -> Outcome
+) -> Result<(Counts, Writer), Refusal>
     requires { Capacity sheet.now nrecords nbytes tables.old sections.old memo.old × Ample (places_of remaps.old types.old constants.old globals.old) }
     ensures { SheetWritten sheet.now nbytes (places_of remaps.new types.new constants.new globals.new) tables.new sections.new result }
 {
-    let h = records::header_test(sheet);
-    if h != 0 {
-        return Outcome::Refused(h);
-    }
+    records::header_test(sheet)?;
     let options = records::options_of(sheet);
     let mut w = writer::new(nrecords, nbytes, fields::u32_at(sheet, 1) as u64);
     let mut at = records::HEADER;
@@ -237,21 +192,15 @@ pub fn write_sheet(
     while at < sheet.len() {
         let rest = records::rest_at(sheet, at);
         if records::no_record(rest) {
-            return Outcome::Refused(4);
+            return Err(Refusal::NoRecord);
         }
         let hash = hash::hash_at(rest);
-        let t = write_record(
+        w = write_record(
             tables, sections, memo, w, sheet, remaps, types, k, available, rest, hash, options,
-        );
-        let r = t.refused;
-        if r != 0 {
-            return Outcome::Refused(r);
-        }
-        let v = t.writer;
-        w = v;
+        )?;
         available = availability::behind(available, rest);
         k = holding::hold(sheet, remaps, types, constants, globals, k, at, hash);
         at = records::next_place(rest, at);
     }
-    Outcome::Fit(k, w)
+    Ok((k, w))
 }

@@ -2,5 +2,4 @@ pub mod Puts
 pub mod Splices
 pub mod Packed
 pub mod Heads
-pub mod Spaces
 pub mod Ids

@@ -1,11 +1,10 @@
--- A packed string word by word: how many words there are, and each from its place in the bytes.
-use Prim.Native.Nat.{ℕ, zero, suc, ◌+◌, ◌-◌, ◌*◌, ◌/◌, ◌<◌}
-use mathlib.Core.Path.{◌≡◌, refl, sym, ap, ◌∙◌}
-use mathlib.Core.List.{List, [], ◌∷◌}
-use native.Mathlib.Nat.{not-suc-le-zero, le_of_suc-le-suc}
+-- A packed string: how many words there are, and that they are those of the bytes four by four.
+use Prim.Native.Nat.{ℕ, zero, suc, ◌+◌, ◌*◌, ◌/◌}
+use mathlib.Core.Path.{◌≡◌, refl, ap}
+use mathlib.Core.List.{List, [], ◌∷◌, ◌++◌, map}
 use native.Mathlib.Omega.{arith}
-use lib.ListN.{length, get_or, take, drop, length-drop}
-use lib.Seq.{take_all, get_or-drop}
+use lib.ListN.{length, drop}
+use Rattle.std.specs.Simd.{first_chunks}
 use Rattle.definition.specs.Instructions.{little_endian, packed}
 use Rattle.spirv.specs.Bytes.{word_of}
 
@@ -17,34 +16,18 @@ packed-length (a ∷ (b ∷ [])) = refl
 packed-length (a ∷ (b ∷ (c ∷ []))) = refl
 packed-length (a ∷ (b ∷ (c ∷ (d ∷ bs)))) = omega (arith, packed-length bs)
 
-packed_at : (bs : List ℕ) (i : ℕ) → i < length (packed bs) → get_or (packed bs) i 0 ≡ word_of (drop (4 * i) bs)
+-- four bytes at a time, and what is left of them
+pub packed_chunks : (k : ℕ) (bs : List ℕ) → k ≡ length bs / 4 → packed bs ≡ map word_of (first_chunks 4 k bs) ++ word_of (drop (k * 4) bs) ∷ []
 unfolding packed
-packed_at [] zero h = refl
-packed_at (a ∷ []) zero h = refl
-packed_at (a ∷ (b ∷ [])) zero h = refl
-packed_at (a ∷ (b ∷ (c ∷ []))) zero h = refl
-packed_at (a ∷ (b ∷ (c ∷ (d ∷ bs)))) zero h = refl
-packed_at [] (suc i) h = absurd (not-suc-le-zero (le_of_suc-le-suc h))
-packed_at (a ∷ []) (suc i) h = absurd (not-suc-le-zero (le_of_suc-le-suc h))
-packed_at (a ∷ (b ∷ [])) (suc i) h = absurd (not-suc-le-zero (le_of_suc-le-suc h))
-packed_at (a ∷ (b ∷ (c ∷ []))) (suc i) h = absurd (not-suc-le-zero (le_of_suc-le-suc h))
-packed_at (a ∷ (b ∷ (c ∷ (d ∷ bs)))) (suc i) h =
-    let e : 4 * suc i ≡ suc (suc (suc (suc (4 * i)))) = omega arith in
-    packed_at bs i (le_of_suc-le-suc h) ∙ ap (λ (k : ℕ). word_of (drop k (a ∷ (b ∷ (c ∷ (d ∷ bs)))))) (sym e)
-
--- the word that the code makes of four bytes, and of what is left of the bytes
-pub word_whole : (bs : List ℕ) (i w : ℕ) → i < length bs / 4 + 1 → w ≡ word_of (drop (4 * i) bs) → w ≡ get_or (packed bs) i 0
-word_whole bs i w h e = e ∙ sym (packed_at bs i (omega (arith, packed-length bs)))
-
-pub word_here : (bs : List ℕ) (i w : ℕ) → i < length bs / 4 + 1 → w ≡ word_of (take (length bs - 4 * i) (drop (4 * i) bs)) → w ≡ get_or (packed bs) i 0
-word_here bs i w h e = word_whole bs i w h (e ∙ ap word_of (take_all (length bs - 4 * i) (drop (4 * i) bs) (simp length-drop (omega arith))))
-
--- four bytes of a word by their places
-pub word_at : (bs : List ℕ) (i : ℕ) → word_of (drop i bs) ≡ little_endian (get_or bs i 0) (get_or bs (i + 1) 0) (get_or bs (i + 2) 0) (get_or bs (i + 3) 0)
-word_at bs i =
-    let e : i + 0 ≡ i = omega arith in
-    let p = get_or-drop i bs 0 0 ∙ ap (λ (j : ℕ). get_or bs j 0) e in
-    let q = get_or-drop i bs 1 0 in
-    let r = get_or-drop i bs 2 0 in
-    let s = get_or-drop i bs 3 0 in
-    λ t. little_endian (p t) (q t) (r t) (s t)
+packed_chunks zero [] h = refl
+packed_chunks zero (a ∷ []) h = refl
+packed_chunks zero (a ∷ (b ∷ [])) h = refl
+packed_chunks zero (a ∷ (b ∷ (c ∷ []))) h = refl
+packed_chunks zero (a ∷ (b ∷ (c ∷ (d ∷ bs)))) h = absurd (omega (arith, h))
+packed_chunks (suc k) [] h = absurd (omega (arith, h))
+packed_chunks (suc k) (a ∷ []) h = absurd (omega (arith, h))
+packed_chunks (suc k) (a ∷ (b ∷ [])) h = absurd (omega (arith, h))
+packed_chunks (suc k) (a ∷ (b ∷ (c ∷ []))) h = absurd (omega (arith, h))
+packed_chunks (suc k) (a ∷ (b ∷ (c ∷ (d ∷ bs)))) h =
+    let e : suc k * 4 ≡ suc (suc (suc (suc (k * 4)))) = omega arith in
+    rw e (ap (λ (ws : List ℕ). little_endian a b c d ∷ ws) (packed_chunks k bs (omega (arith, h))))

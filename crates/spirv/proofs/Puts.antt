@@ -35,6 +35,18 @@ module _ (ws xs ys : List ℕ) (m : ℕ) (p : Put ws xs ys m) (room : length ws 
   pub same_length : length ys ≡ length xs
   same_length = ap length front ∙ simp (length-append, length-drop) (omega arith)
 
+  -- one more word behind them
+  pub one_more : (w : ℕ) → length ws < length xs → Put (ws ++ w ∷ []) xs (set ys (length ws) w) (length ws + 1)
+  one_more w more =
+      let n = length ws in
+      let e : suc n ≡ length (ws ++ w ∷ []) = simp length-append (omega arith) in
+      put_of (ws ++ w ∷ []) xs (set ys n w) (n + 1)
+      (ap (λ (z : List ℕ). set z n w) (front ∙ ap (λ (z : List ℕ). ws ++ z) (drop-cons xs n 0 more))
+      ∙ set_at ws (get_or xs n 0) (drop (suc n) xs) w n refl
+      ∙ sym (append_snoc ws w (drop (suc n) xs))
+      ∙ ap (λ (j : ℕ). (ws ++ w ∷ []) ++ drop j xs) e)
+      (simp length-append (omega arith)) (omega arith)
+
 -- ---- word by word
 
 -- the first i of the words stand at the front, and the rest of the buffer is as it was
@@ -42,9 +54,6 @@ abbrev pub laid : ℕ → List ℕ → List ℕ → List ℕ
 laid i ws xs = take i ws ++ drop i xs
 
 module _ (ws xs ys : List ℕ) (i : ℕ) (e : ys ≡ laid i ws xs) where
-  pub laid-length : i ≤ length ws → i ≤ length xs → length ys ≡ length xs
-  laid-length h k = ap length e ∙ simp (length-append, length-take-le i ws h, length-drop) (omega arith)
-
   -- a turn of the loop
   pub laid_more : (w : ℕ) → i < length ws → i < length xs → w ≡ get_or ws i 0 → set ys i w ≡ laid (i + 1) ws xs
   laid_more w h k f =

@@ -3,3 +3,5 @@ pub mod Bytes
 pub mod Heads
 pub mod Sections
 pub mod Ids
+pub mod Opcodes
+pub mod Images

@@ -1,5 +1,5 @@
-// How far apart a matrix's columns are, in bytes. The Rust multiplies an `Alignment` by the width; here the nine products are held in
-// a table.
+// How far apart a matrix's columns are, in bytes. The Rust multiplies an `Alignment` by the width; document 02 wants the nine products
+// held in a table.
 ghost use Rattle.std.specs.Prelude.{◌≡◌, true};
 ghost use Rattle.definition.specs.Rules.{column_stride, has_stride};
 

@@ -1,11 +1,13 @@
-// What the SPIR-V back end writes with: packed strings, storage classes, the instructions of document 01's rules, ids, and
+// What the SPIR-V back end writes with: packed strings, storage classes, images, the instructions of document 01's rules, ids, and
 // the module's layout. Words go to the front of what is left of a buffer that the caller lends.
 #![tactic(auto)]
 
 pub mod helpers;
+pub mod images;
 pub mod instructions;
 pub mod layout;
 pub mod layouter;
+pub mod opcodes;
 pub mod words;
 
 ghost use Rattle.std.specs.Prelude.{◌≡◌, ◌^◌, ◌<◌};
@@ -18,7 +20,7 @@ pub struct IdGenerator {
     pub last: u64,
 }
 
-// An id, and the generator moved on past it.
+// An id, and the generator moved on past it: by value, since document 01 has a generator that is handed back with its count moved on.
 #[derive(Clone, Copy)]
 pub struct NextId {
     pub id: u64,

@@ -1,17 +1,17 @@
 -- What a facet says of a type is what the definition asks of it: a line for each of the thirteen types. Only an image needs a
 -- step more, since its facet goes by its class, and a matrix's stride, which goes by its rows and width. Then the wrapper of a type
--- and of a global.
+-- and the spaces that ask for one.
 use Prim.Native.Nat.{ℕ, ◌+◌}
 use mathlib.Core.Path.{◌≡◌, refl}
-use mathlib.Core.Bool.{Bool, true, false, ◌&&◌}
+use mathlib.Core.Bool.{Bool, true, false}
 use mathlib.Core.List.{List, [], ◌∷◌}
-use mathlib.Core.Option.{Option, some, none}
+use Rattle.std.specs.Prelude.{Option, Some, None}
 use lib.Dec.{eqb}
 use Rattle.definition.specs.Choice.{pick, among}
 use Rattle.definition.specs.Bytes.{u8_at}
-use Rattle.definition.specs.Sheet.{Fields, TypeEntry, TypeInner, Global, members_at, type_fields, uniform_space, storage_space, push_constant_space}
+use Rattle.definition.specs.Sheet.{Fields, TypeEntry, TypeInner, members_at, type_fields, uniform_space, storage_space, push_constant_space}
 use Rattle.definition.specs.Sheet.{Scalar, Vector, Matrix, Atomic, Pointer, ValuePointer, Array, Struct, Image, Sampler, AccelerationStructure, RayQuery, BindingArray}
-use Rattle.definition.specs.Rules.{inner_at, column_stride, has_stride, matrix_stride, element_of, is_dynamic, wraps_type, needs_wrapper, image_access, binding_base}
+use Rattle.definition.specs.Rules.{inner_at, column_stride, has_stride, matrix_stride, element_of, is_dynamic, wraps_type, image_access, binding_base}
 use Rattle.definition.specs.Unfit.{is_pointer}
 use Rattle.definition.proofs.Truth.{pick_for}
 use Rattle.kinds.specs.Numbers.{space_number}
@@ -19,8 +19,7 @@ use Rattle.kinds.specs.declared.AddressSpace.{AddressSpace}
 use Rattle.kinds.specs.declared.AddressSpace.TheVariants.{Function, Private, WorkGroup, Uniform, Storage, Handle, PushConstant}
 use Rattle.type_facts.specs.declared.facets.Facet.{Facet}
 use Rattle.type_facts.specs.declared.facets.Facet.TheVariants.{StorageImage, Other}
-use Rattle.type_facts.specs.declared.Number.TheVariants.{Nothing as NoNumber, Of as SomeNumber}
-use Rattle.type_facts.specs.Facets.{facet_of, image_facet, dynamic_in, stride_in, access_in, base_in, element_in, pointer_in, wraps_in, wraps_space, number_of, byte_of, index_of}
+use Rattle.type_facts.specs.Facets.{facet_of, image_facet, dynamic_in, stride_in, access_in, base_in, element_in, pointer_in, wraps_in, wraps_space}
 
 -- ---- facets: a line a type
 
@@ -45,12 +44,12 @@ dynamic RayQuery = refl
 dynamic (BindingArray b n) = refl
 
 -- a matrix
-pub stride : (i : TypeInner) → matrix_stride i ≡ number_of (stride_in (facet_of i))
+pub stride : (i : TypeInner) → matrix_stride i ≡ (stride_in (facet_of i))
 stride (Scalar k w) = refl
 stride (Vector n k w) = refl
 stride (Matrix c r w) = go (has_stride r w)
   where
-    go : (b : Bool) → pick b (some (column_stride r w)) none ≡ number_of (pick b (SomeNumber (column_stride r w)) NoNumber)
+    go : (b : Bool) → pick b (Some (column_stride r w)) None ≡ (pick b (Some (column_stride r w)) None)
     go true = refl
     go false = refl
 stride (Atomic k w) = refl
@@ -58,14 +57,14 @@ stride (Pointer b s a) = refl
 stride (ValuePointer n k w s a) = refl
 stride (Array b n d) = refl
 stride (Struct n ms) = refl
-stride (Image d a c x y) = image (λ (f : Facet). none ≡ number_of (stride_in f)) c y refl refl
+stride (Image d a c x y) = image (λ (f : Facet). None ≡ (stride_in f)) c y refl refl
 stride (Sampler c) = refl
 stride AccelerationStructure = refl
 stride RayQuery = refl
 stride (BindingArray b n) = refl
 
 -- a storage image
-pub access : (i : TypeInner) → image_access i ≡ byte_of (access_in (facet_of i))
+pub access : (i : TypeInner) → image_access i ≡ (access_in (facet_of i))
 access (Scalar k w) = refl
 access (Vector n k w) = refl
 access (Matrix c r w) = refl
@@ -76,7 +75,7 @@ access (Array b n d) = refl
 access (Struct n ms) = refl
 access (Image d a c x y) = go (eqb c 2)
   where
-    go : (b : Bool) → pick b (some y) none ≡ byte_of (access_in (pick b (StorageImage y) Other))
+    go : (b : Bool) → pick b (Some y) None ≡ (access_in (pick b (StorageImage y) Other))
     go true = refl
     go false = refl
 access (Sampler c) = refl
@@ -85,7 +84,7 @@ access RayQuery = refl
 access (BindingArray b n) = refl
 
 -- a BindingArray
-pub base : (i : TypeInner) → binding_base i ≡ index_of (base_in (facet_of i))
+pub base : (i : TypeInner) → binding_base i ≡ (base_in (facet_of i))
 base (Scalar k w) = refl
 base (Vector n k w) = refl
 base (Matrix c r w) = refl
@@ -94,7 +93,7 @@ base (Pointer b s a) = refl
 base (ValuePointer n k w s a) = refl
 base (Array b n d) = refl
 base (Struct n ms) = refl
-base (Image d a c x y) = image (λ (f : Facet). none ≡ index_of (base_in f)) c y refl refl
+base (Image d a c x y) = image (λ (f : Facet). None ≡ (base_in f)) c y refl refl
 base (Sampler c) = refl
 base AccelerationStructure = refl
 base RayQuery = refl
@@ -118,10 +117,10 @@ pointer (BindingArray b n) = refl
 
 -- an array's elements are of its base; all else is of itself
 abbrev pub element_by : List TypeEntry → TypeInner → Option ℕ → TypeInner
-element_by ts i none = i
-element_by ts i (some b) = inner_at ts b
+element_by ts i None = i
+element_by ts i (Some b) = inner_at ts b
 
-pub element : (ts : List TypeEntry) (i : TypeInner) → element_of ts i ≡ element_by ts i (index_of (element_in (facet_of i)))
+pub element : (ts : List TypeEntry) (i : TypeInner) → element_of ts i ≡ element_by ts i ((element_in (facet_of i)))
 element ts (Scalar k w) = refl
 element ts (Vector n k w) = refl
 element ts (Matrix c r w) = refl
@@ -130,7 +129,7 @@ element ts (Pointer b s a) = refl
 element ts (ValuePointer n k w s a) = refl
 element ts (Array b n d) = refl
 element ts (Struct n ms) = refl
-element ts (Image d a c x y) = image (λ (f : Facet). Image d a c x y ≡ element_by ts (Image d a c x y) (index_of (element_in f))) c y refl refl
+element ts (Image d a c x y) = image (λ (f : Facet). Image d a c x y ≡ element_by ts (Image d a c x y) ((element_in f))) c y refl refl
 element ts (Sampler c) = refl
 element ts AccelerationStructure = refl
 element ts RayQuery = refl
@@ -147,9 +146,9 @@ wraps ts t b n =
     (pick_for P (eqb t 24) _ _ (image (λ (f : Facet). true ≡ wraps_in ts f (members_at b (n + 5) (u8_at b (n + 4)))) (u8_at b (n + 2)) (u8_at b (n + 4)) refl refl)
     (pick_for P (eqb t 25) _ _ refl (pick_for P (eqb t 26) _ _ refl (pick_for P (eqb t 27) _ _ refl refl)))))))))))
 
--- ---- a global is wrapped by its space and its type
+-- ---- a global is wrapped by its space, if its type lets it
 
-space : (s : AddressSpace) → among (space_number s) (uniform_space ∷ storage_space ∷ push_constant_space ∷ []) ≡ wraps_space s
+pub space : (s : AddressSpace) → among (space_number s) (uniform_space ∷ storage_space ∷ push_constant_space ∷ []) ≡ wraps_space s
 space Function = refl
 space Private = refl
 space WorkGroup = refl
@@ -157,8 +156,3 @@ space Uniform = refl
 space (Storage a) = refl
 space Handle = refl
 space PushConstant = refl
-
-pub wrapper : (ts : List TypeEntry) (i : ℕ) (s : AddressSpace) (g : Global) → g.type ≡ i → g.space ≡ space_number s
-    → needs_wrapper ts g ≡ (wraps_space s && wraps_type ts (inner_at ts i))
-unfolding needs_wrapper
-wrapper ts i s g et es = rw (et, es, space s)

@@ -1,27 +1,28 @@
--- The last member of a struct: passing one member leaves the last one where it is.
-use Prim.Native.Nat.{ℕ, suc, ◌+◌, ◌-◌, ◌<◌}
-use mathlib.Core.Path.{◌≡◌, sym, ap, ◌∙◌}
-use mathlib.Core.Bool.{true}
-use mathlib.Core.List.{List}
-use native.Mathlib.Omega.{arith}
-use Rattle.definition.specs.Bytes.{u16_at, name_end}
-use Rattle.definition.specs.Sheet.{TypeEntry, members_at}
+-- The last member of a struct says whether it ends in a dynamic array; where there is none, it is as if it did.
+use Rattle.std.proofs.Common.{◌≡◌, Bool, true, List, [], ◌∷◌, map, Option, Some, None, refl, ap, ◌∙◌}
+use Rattle.std.specs.Iterator.{YieldsFirstBy, Drains}
+use Rattle.std.specs.List.{last_or}
+use Rattle.definition.specs.Sheet.{TypeEntry}
 use Rattle.definition.specs.Rules.{inner_at, is_dynamic, ends_dynamic}
+use Rattle.members.specs.declared.Member.{Member}
+use Rattle.members.specs.declared.Members.{Members}
+use Rattle.members.specs.Walk.{member_of, members_left}
+use Rattle.members.proofs.Laws.{drained}
 
-module _ (ts : List TypeEntry) (b : List ℕ) (p k : ℕ) where
-  -- with more than one left, the first may be passed
-  pub last_on : 1 < k → (q : ℕ) → q ≡ name_end b (p + 6) → ends_dynamic ts (members_at b q (k - 1)) ≡ ends_dynamic ts (members_at b p k)
-  unfolding ends_dynamic members_at
-  last_on h q e =
-      let m : k - 1 ≡ suc (k - 2) = omega arith in
-      let l : k ≡ suc (suc (k - 2)) = omega arith in
-      (λ j. ends_dynamic ts (members_at b (e j) (m j))) ∙ sym (ap (λ (x : ℕ). ends_dynamic ts (members_at b p x)) l)
+module _ (ts : List TypeEntry) where
+  abbrev pub last_dynamic : Option Member → Bool
+  last_dynamic None = true
+  last_dynamic (Some m) = is_dynamic (inner_at ts m.ty)
 
-  -- with one left, that is the last
-  pub last_one : k ≡ 1 → (t : ℕ) → t ≡ u16_at b p → is_dynamic (inner_at ts t) ≡ ends_dynamic ts (members_at b p k)
-  unfolding ends_dynamic members_at
-  last_one e t et = ap (λ (x : ℕ). is_dynamic (inner_at ts x)) et ∙ sym (ap (λ (x : ℕ). ends_dynamic ts (members_at b p x)) e)
+  behind : (x : Member) (xs : List Member) → last_dynamic (last_or (Some x) xs) ≡ ends_dynamic ts (map member_of (x ∷ xs))
+  unfolding ends_dynamic
+  behind x [] = refl
+  behind x (y ∷ xs) = behind y xs
 
-  pub no_member : k ≡ 0 → true ≡ ends_dynamic ts (members_at b p k)
-  unfolding ends_dynamic members_at
-  no_member e = sym (ap (λ (x : ℕ). ends_dynamic ts (members_at b p x)) e)
+  all : (xs : List Member) → last_dynamic (last_or None xs) ≡ ends_dynamic ts (map member_of xs)
+  unfolding ends_dynamic
+  all [] = refl
+  all (x ∷ xs) = behind x xs
+
+  pub of_last : (s : Members) (r : Option Member) → ((xs : List Member) × Drains (YieldsFirstBy member_of members_left) s xs × (r ≡ last_or None xs)) → last_dynamic r ≡ ends_dynamic ts (members_left s)
+  of_last s r ran = ap last_dynamic ran.2 ∙ all ran.0 ∙ ap (ends_dynamic ts) (drained s ran.0 ran.1)

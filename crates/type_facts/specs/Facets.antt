@@ -1,6 +1,6 @@
 -- The facet of a type of the definition and what each question finds in a facet; the program's options as the definition's.
 use Rattle.std.specs.Prelude.{ℕ, Bool, true, false, not, List, eqb}
-use Rattle.std.proofs.Math.Option.{Option, some, none}
+use Rattle.std.specs.Prelude.{Option, Some, None}
 use Rattle.definition.specs.Choice.{pick}
 use Rattle.definition.specs.Rules.{column_stride, has_stride, ends_dynamic}
 use Rattle.definition.specs.Sheet as Defined
@@ -8,27 +8,6 @@ use Rattle.kinds.specs.declared.AddressSpace.{AddressSpace}
 use Rattle.kinds.specs.declared.AddressSpace.TheVariants.{Function, Private, WorkGroup, Uniform, Storage, Handle, PushConstant}
 use Rattle.type_facts.specs.declared.facets.Facet.{Facet}
 use Rattle.type_facts.specs.declared.facets.Facet.TheVariants.{Matrix, Array, Struct, StorageImage, Pointer, BindingArray, Other}
-use Rattle.type_facts.specs.declared.Number.{Number}
-use Rattle.type_facts.specs.declared.Number.TheVariants.{Nothing as NoNumber, Of as SomeNumber}
-use Rattle.type_facts.specs.declared.Access.{Access}
-use Rattle.type_facts.specs.declared.Access.TheVariants.{Nothing as NoAccess, Of as SomeAccess}
-use Rattle.type_facts.specs.declared.Base.{Base}
-use Rattle.type_facts.specs.declared.Base.TheVariants.{Nothing as NoBase, Of as SomeBase}
-
--- a number that may be missing
-abbrev pub number_of : Number → Option ℕ
-number_of NoNumber = none
-number_of (SomeNumber n) = some n
-
--- an access that may be missing
-abbrev pub byte_of : Access → Option ℕ
-byte_of NoAccess = none
-byte_of (SomeAccess a) = some a
-
--- the index of a type that may be missing
-abbrev pub index_of : Base → Option ℕ
-index_of NoBase = none
-index_of (SomeBase b) = some b
 
 -- ---- facets
 
@@ -65,48 +44,48 @@ dynamic_in (BindingArray b) = false
 dynamic_in Other = false
 
 -- the column stride of so many rows of a width
-abbrev pub stride_of : ℕ → ℕ → Number
-stride_of rows width = pick (has_stride rows width) (SomeNumber (column_stride rows width)) NoNumber
+abbrev pub stride_of : ℕ → ℕ → Option ℕ
+stride_of rows width = pick (has_stride rows width) (Some (column_stride rows width)) None
 
 -- the column stride of a matrix
-abbrev pub stride_in : Facet → Number
+abbrev pub stride_in : Facet → Option ℕ
 stride_in (Matrix r w) = stride_of r w
-stride_in (Array b d) = NoNumber
-stride_in Struct = NoNumber
-stride_in (StorageImage a) = NoNumber
-stride_in Pointer = NoNumber
-stride_in (BindingArray b) = NoNumber
-stride_in Other = NoNumber
+stride_in (Array b d) = None
+stride_in Struct = None
+stride_in (StorageImage a) = None
+stride_in Pointer = None
+stride_in (BindingArray b) = None
+stride_in Other = None
 
 -- the access of a storage image
-abbrev pub access_in : Facet → Access
-access_in (Matrix r w) = NoAccess
-access_in (Array b d) = NoAccess
-access_in Struct = NoAccess
-access_in (StorageImage a) = SomeAccess a
-access_in Pointer = NoAccess
-access_in (BindingArray b) = NoAccess
-access_in Other = NoAccess
+abbrev pub access_in : Facet → Option ℕ
+access_in (Matrix r w) = None
+access_in (Array b d) = None
+access_in Struct = None
+access_in (StorageImage a) = Some a
+access_in Pointer = None
+access_in (BindingArray b) = None
+access_in Other = None
 
 -- the base of a BindingArray
-abbrev pub base_in : Facet → Base
-base_in (Matrix r w) = NoBase
-base_in (Array b d) = NoBase
-base_in Struct = NoBase
-base_in (StorageImage a) = NoBase
-base_in Pointer = NoBase
-base_in (BindingArray b) = SomeBase b
-base_in Other = NoBase
+abbrev pub base_in : Facet → Option ℕ
+base_in (Matrix r w) = None
+base_in (Array b d) = None
+base_in Struct = None
+base_in (StorageImage a) = None
+base_in Pointer = None
+base_in (BindingArray b) = Some b
+base_in Other = None
 
 -- the base of an Array
-abbrev pub element_in : Facet → Base
-element_in (Matrix r w) = NoBase
-element_in (Array b d) = SomeBase b
-element_in Struct = NoBase
-element_in (StorageImage a) = NoBase
-element_in Pointer = NoBase
-element_in (BindingArray b) = NoBase
-element_in Other = NoBase
+abbrev pub element_in : Facet → Option ℕ
+element_in (Matrix r w) = None
+element_in (Array b d) = Some b
+element_in Struct = None
+element_in (StorageImage a) = None
+element_in Pointer = None
+element_in (BindingArray b) = None
+element_in Other = None
 
 -- whether it is a Pointer or a ValuePointer
 abbrev pub pointer_in : Facet → Bool

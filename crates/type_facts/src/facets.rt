@@ -9,7 +9,7 @@ ghost use Rattle.definition.specs.Rules.{inner_at};
 ghost use Rattle.records.specs.Places.{types_from};
 ghost use Rattle.type_facts.specs.Facets.{facet_of, image_facet, dynamic_in, stride_of, stride_in, element_in, access_in, base_in, pointer_in};
 
-use crate::{Access, Base, Number};
+use fields::Named;
 use sheet_fields::values::{float_width, size_fits};
 use spirv::layouter::matrix_stride;
 
@@ -30,41 +30,34 @@ fn image_facet(class: u8, access: u8) -> Facet
     ensures { result ≡ image_facet class access }
 {
     if class == 2 {
-        return Facet::StorageImage { access };
+        Facet::StorageImage { access }
+    } else {
+        Facet::Other
     }
-    Facet::Other
 }
 
 // Of a type with a tag and a body. Other are Scalar, Vector, Atomic, Sampler, AccelerationStructure and RayQuery. What is no
 // type's tag is a BindingArray, here as in the definition: test 5 lets none through.
+#[tactic(auto, unfolding(definition::specs::Sheet::type_fields))]
 pub fn facet_of(tag: u8, body: &[u8]) -> Facet
     ensures { result ≡ facet_of (type_fields tag body.now (name_end body.now 0)).value }
 {
-    let at = fields::name_end(body, 0);
+    let named = Named::new(body);
     match tag {
-        16 => Facet::Other,
-        17 => Facet::Other,
         18 => Facet::Matrix {
-            rows: fields::u8_at(body, at + 1),
-            width: fields::u8_at(body, at + 2),
+            rows: named.u8_at(1),
+            width: named.u8_at(2),
         },
-        19 => Facet::Other,
-        20 => Facet::Pointer,
-        21 => Facet::Pointer,
+        20 | 21 => Facet::Pointer,
         22 => Facet::Array {
-            base: fields::u16_at(body, at),
-            dynamic: fields::u32_at(body, at + 2) == 0,
+            base: named.u16_at(0),
+            dynamic: named.u32_at(2) == 0,
         },
         23 => Facet::Struct,
-        24 => image_facet(fields::u8_at(body, at + 2), fields::u8_at(body, at + 4)),
-        25 => Facet::Other,
-        26 => Facet::Other,
-        27 => Facet::Other,
-        28 => Facet::BindingArray {
-            base: fields::u16_at(body, at),
-        },
-        _ => Facet::BindingArray {
-            base: fields::u16_at(body, at),
+        24 => image_facet(named.u8_at(2), named.u8_at(4)),
+        16 | 17 | 19 | 25 | 26 | 27 => Facet::Other,
+        28 | _ => Facet::BindingArray {
+            base: named.u16_at(0),
         },
     }
 }
@@ -81,88 +74,69 @@ pub fn facet_at(sheet: &[u8], types: &[u32], ntypes: usize, index: usize) -> Fac
     facet_of(records::tag_of(rest), records::body_of(rest))
 }
 
-// Whether it is a dynamic array.
-pub fn dynamic_in(facet: Facet) -> bool
-    ensures { result ≡ dynamic_in facet }
-{
-    match facet {
-        Facet::Matrix { rows: _, width: _ } => false,
-        Facet::Array { base: _, dynamic } => dynamic,
-        Facet::Struct => false,
-        Facet::StorageImage { access: _ } => false,
-        Facet::Pointer => false,
-        Facet::BindingArray { base: _ } => false,
-        Facet::Other => false,
-    }
-}
-
 // The column stride of so many rows of a width. A matrix that test 10 would refuse has none, here as in the definition.
-fn stride_of(rows: u8, width: u8) -> Number
+fn stride_of(rows: u8, width: u8) -> Option<u32>
     ensures { result ≡ stride_of rows width }
 {
-    if !size_fits(rows) {
-        return Number::Nothing;
+    if size_fits(rows) && float_width(width) {
+        Some(matrix_stride(rows, width))
+    } else {
+        None
     }
-    if !float_width(width) {
-        return Number::Nothing;
+}
+
+impl Facet {
+    // Whether it is a dynamic array.
+    pub fn is_dynamic(self) -> bool
+        ensures { result ≡ dynamic_in self }
+    {
+        matches!(self, Facet::Array { dynamic: true, .. })
     }
-    Number::Of(matrix_stride(rows, width))
-}
 
-// The column stride of a matrix.
-pub fn stride_in(facet: Facet) -> Number
-    ensures { result ≡ stride_in facet }
-{
-    let Facet::Matrix { rows, width } = facet else {
-        return Number::Nothing;
-    };
-    stride_of(rows, width)
-}
+    // The column stride of a matrix.
+    pub fn stride(self) -> Option<u32>
+        ensures { result ≡ stride_in self }
+    {
+        match self {
+            Facet::Matrix { rows, width } => stride_of(rows, width),
+            _ => None,
+        }
+    }
 
-// The access of a storage image.
-pub fn access_in(facet: Facet) -> Access
-    ensures { result ≡ access_in facet }
-{
-    let Facet::StorageImage { access } = facet else {
-        return Access::Nothing;
-    };
-    Access::Of(access)
-}
+    // The access of a storage image.
+    pub fn access(self) -> Option<u8>
+        ensures { result ≡ access_in self }
+    {
+        match self {
+            Facet::StorageImage { access } => Some(access),
+            _ => None,
+        }
+    }
 
-// The base of a BindingArray.
-pub fn base_in(facet: Facet) -> Base
-    ensures { result ≡ base_in facet }
-{
-    let Facet::BindingArray { base } = facet else {
-        return Base::Nothing;
-    };
-    Base::Of(base)
-}
+    // The base of a BindingArray.
+    pub fn binding_base(self) -> Option<u16>
+        ensures { result ≡ base_in self }
+    {
+        match self {
+            Facet::BindingArray { base } => Some(base),
+            _ => None,
+        }
+    }
 
-// The base of an Array.
-pub fn element_in(facet: Facet) -> Base
-    ensures { result ≡ element_in facet }
-{
-    let Facet::Array { base, dynamic: _ } = facet else {
-        return Base::Nothing;
-    };
-    Base::Of(base)
-}
+    // The base of an Array.
+    pub fn element(self) -> Option<u16>
+        ensures { result ≡ element_in self }
+    {
+        match self {
+            Facet::Array { base, .. } => Some(base),
+            _ => None,
+        }
+    }
 
-// Whether it is a Pointer or a ValuePointer.
-pub fn pointer_in(facet: Facet) -> bool
-    ensures { result ≡ pointer_in facet }
-{
-    match facet {
-        Facet::Matrix { rows: _, width: _ } => false,
-        Facet::Array {
-            base: _,
-            dynamic: _,
-        } => false,
-        Facet::Struct => false,
-        Facet::StorageImage { access: _ } => false,
-        Facet::Pointer => true,
-        Facet::BindingArray { base: _ } => false,
-        Facet::Other => false,
+    // Whether it is a Pointer or a ValuePointer.
+    pub fn is_pointer(self) -> bool
+        ensures { result ≡ pointer_in self }
+    {
+        matches!(self, Facet::Pointer)
     }
 }

@@ -11,7 +11,8 @@ use lib.Seq.{sets, length-sets}
 use Rattle.definition.specs.Tests.{Judged, globals_most}
 use Rattle.definition.specs.Operations.{Progress, Wrapping, Wraps, wrapping_of, wrapped, verdict_of, check}
 use Rattle.definition.specs.Operations.{Verdict as Meant}
-use Rattle.declarations.specs.declared.Verdict.{Verdict}
+use Rattle.std.specs.Prelude.{Result}
+use Rattle.refusals.specs.declared.Refusal.{Refusal}
 use Rattle.declarations.specs.Promise.{CheckPromise, verdict_as}
 use Rattle.printing.specs.Text.{yes_or_no, PutText, Printed}
 use Rattle.printing.proofs.Runs.{sets-append, printed}
@@ -78,7 +79,7 @@ module _ (s before text : List ℕ) (at i left : ℕ) (b : Begun s before text a
 
 -- ---- what Check answered decides what is printed
 
-pub decided : (s before after : List ℕ) (r : ℕ) (v w : Verdict) → CheckPromise s v → v ≡ w → Printed (text_of (verdict_as w) (answers s)) before after r
+pub decided : (s before after : List ℕ) (r : ℕ) (v w : Result (Unit {0}) Refusal) → CheckPromise s v → v ≡ w → Printed (text_of (verdict_as w) (answers s)) before after r
     → Printed (answer_to s) before after r
 decided s before after r v w p e h =
     subst (λ (m : Meant). Printed (text_of m (answers s)) before after r) (sym (ap verdict_as e) ∙ p.same) h

@@ -6,7 +6,6 @@ ghost use Rattle.std.specs.Prelude.{◌≤◌, length};
 ghost use Rattle.printing.specs.Text.{Printed};
 ghost use Rattle.wrapped_main.specs.Answers.{answers, answer_to};
 
-use declarations::{Verdict, Wrapping};
 use printing::streams;
 
 // So many globals a sheet may have.
@@ -15,24 +14,17 @@ const GLOBALS_MOST: usize = 64;
 // Four bytes for each global, so that all is printed by one call.
 const TEXT: usize = 256;
 
-// One byte more than a sheet may have: a longer one is refused by these bytes alone (`answer_held`).
-const SHEET: usize = 16385;
-
 // Puts the globals' lines at the front of the text, until there is no further global.
 fn put_answers(sheet: &[u8], text: &mut [u8]) -> usize
     requires { 256 ≤ length text.old }
     ensures { Printed (answers sheet.now) text.old text.new result }
 {
     let mut at = 0;
-    let mut i: usize = 0;
-    let mut left = GLOBALS_MOST;
-    while left > 0 {
-        match declarations::wrapped(sheet, i) {
-            Wrapping::Wraps(yes) => at = printing::put_yes_or_no(text, at, yes),
-            Wrapping::Refused(_) => return at,
-        }
-        i += 1;
-        left -= 1;
+    for i in 0..GLOBALS_MOST {
+        let Ok(yes) = declarations::wrapped(sheet, i) else {
+            break;
+        };
+        at = printing::put_yes_or_no(text, at, yes);
     }
     at
 }
@@ -43,11 +35,12 @@ fn put_answer_to(sheet: &[u8], text: &mut [u8]) -> usize
     ensures { Printed (answer_to sheet.now) text.old text.new result }
 {
     match declarations::check(sheet) {
-        Verdict::Fit => put_answers(sheet, text),
-        Verdict::Refused(n) => printing::put_refusal(text, n),
+        Ok(()) => put_answers(sheet, text),
+        Err(refusal) => printing::put_refusal(text, refusal.number()),
     }
 }
 
+// This and `main` are as in `declare_main`: one of both would take the text's size and what fills it, and be no shorter.
 fn print_answer_to(rt: &(impl Print + Eprint), sheet: &[u8]) {
     let mut text = [0u8; TEXT];
     let n = put_answer_to(sheet, &mut text);
@@ -55,10 +48,8 @@ fn print_answer_to(rt: &(impl Print + Eprint), sheet: &[u8]) {
 }
 
 fn main(rt: HostRuntime) {
-    let mut sheet = [0u8; SHEET];
-    let input = streams::read_input(&rt, &mut sheet);
-    let n = input.held;
-    if !input.failed {
-        print_answer_to(&rt, &sheet[..n]);
+    let mut buffer = [0u8; streams::SHEET];
+    if let Some(sheet) = streams::read(&rt, &mut buffer) {
+        print_answer_to(&rt, sheet);
     }
 }

@@ -1,13 +1,12 @@
 -- Block on an id: its words behind the annotations and its id behind those that carry Block, in one step, since neither alone is
 -- held. The search for an id there is the definition's.
-use Prim.Native.Nat.{ℕ, zero, suc, ◌+◌, ◌≤◌}
+use Prim.Native.Nat.{ℕ, ◌+◌, ◌≤◌}
 use mathlib.Core.Path.{◌≡◌, refl, sym, ap, ◌∙◌, subst}
 use mathlib.Core.Bool.{Bool, true, false}
 use mathlib.Core.List.{List, [], ◌∷◌, ◌++◌}
 use native.Mathlib.Omega.{arith}
 use lib.Dec.{eqb, lit<, lit≤}
-use lib.ListN.{length, take, drop}
-use lib.Seq.{slice}
+use lib.ListN.{length}
 use Rattle.definition.specs.Choice.{pick, among}
 use Rattle.definition.specs.Instructions.{words, decorate}
 use Rattle.definition.specs.Numbers.{DecorationBlock}
@@ -26,19 +25,10 @@ use Rattle.writer.specs.Steps.{Kept, FindsBlock}
 use Rattle.writer.proofs.Regions.{behind, part_right, part_more}
 use Rattle.writer.proofs.Tables.{before}
 use Rattle.writer.proofs.Words.{append, append_in, blocked_snoc, put_appended, adds_count}
-use Rattle.writer.proofs.Spelt.{Spells, decorates}
+use Rattle.writer.specs.Steps.{Spells}
+use Rattle.writer.proofs.Spelt.{decorates}
 
 -- ---- the search
-
-take_nothing : (n : ℕ) → take {A = ℕ} n [] ≡ []
-take_nothing zero = refl
-take_nothing (suc n) = refl
-
--- the ids, as the search goes through them
-pub window : (p n : ℕ) (T : List ℕ) → slice p (p + n) T ≡ part T p n
-window zero n T = let e : 0 + n ≡ n = omega arith in ap (λ (k : ℕ). take k T) e
-window (suc p) n [] = let e : suc p + n ≡ suc (p + n) = omega arith in ap (λ (k : ℕ). drop {A = ℕ} (suc p) (take k [])) e ∙ sym (take_nothing n)
-window (suc p) n (x ∷ T) = let e : suc p + n ≡ suc (p + n) = omega arith in ap (λ (k : ℕ). drop (suc p) (take k (x ∷ T))) e ∙ window p n T
 
 pub listed_among : (c : ℕ) (xs : List ℕ) → is_listed c xs ≡ among c xs
 unfolding is_listed

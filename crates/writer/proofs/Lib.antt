@@ -8,3 +8,4 @@ pub mod Parts
 pub mod Values
 pub mod Staged
 pub mod Blocks
+pub mod Passing

@@ -1,19 +1,12 @@
 -- A name's instruction: its bytes make words, so only the id that it names is taken modulo 2^32.
 use Prim.Native.Nat.{ℕ, suc, ◌+◌, ◌*◌, ◌≤◌, ◌<◌}
-use mathlib.Core.Path.{◌≡◌, refl, sym, ap, ◌∙◌}
+use mathlib.Core.Path.{◌≡◌, refl}
 use mathlib.Core.List.{List, [], ◌∷◌, map}
 use native.Mathlib.Omega.{arith}
 use lib.ListN.{length, get_or}
 use Rattle.definition.specs.Instructions.{words, name, member_name, packed, little_endian}
-use Rattle.spirv.specs.Put.{Put}
-use Rattle.spirv.proofs.Puts as Puts
-use Rattle.writer.specs.declared.Writer.{Writer}
 use Rattle.spirv.specs.Ids.{low}
-use Rattle.writer.specs.Regions.{section_at, names, more}
-use Rattle.writer.specs.Cost.{naming}
-use Rattle.writer.specs.Held.{RoomFor}
-use Rattle.writer.specs.Steps.{Puts as PutsOne}
-use Rattle.writer.proofs.Words.{adds_put, puts}
+use Rattle.writer.specs.Steps.{Spells}
 
 pub packed_few : (bs : List ℕ) → length (packed bs) ≤ length bs + 1
 unfolding packed
@@ -34,7 +27,7 @@ packed_low (a ∷ (b ∷ (c ∷ (d ∷ bs)))) h =
     let r = packed_low bs (λ i. h (suc (suc (suc (suc i))))) in
     λ j. e j ∷ r j
 
-pub name_few : (t : ℕ) (bs : List ℕ) → length (words (name t bs)) ≤ length bs + 3
+name_few : (t : ℕ) (bs : List ℕ) → length (words (name t bs)) ≤ length bs + 3
 unfolding words
 name_few t bs = omega (arith, packed_few bs)
 
@@ -46,7 +39,7 @@ spelt target bs few h =
     let r = packed_low bs h in
     λ j. e j ∷ low target ∷ r j
 
-pub member_few : (t i : ℕ) (bs : List ℕ) → length (words (member_name t i bs)) ≤ length bs + 4
+member_few : (t i : ℕ) (bs : List ℕ) → length (words (member_name t i bs)) ≤ length bs + 4
 unfolding words
 member_few t i bs = omega (arith, packed_few bs)
 
@@ -59,18 +52,8 @@ spelt_member target i bs hi few h =
     let r = packed_low bs h in
     λ j. e j ∷ low target ∷ k j ∷ r j
 
-module _ (w : Writer) (S : List ℕ) (target : ℕ) (bs : List ℕ) (few : length bs < 256) (small : (i : ℕ) → get_or bs i 0 < 256) (t : ℕ) (e : t ≡ low target) (z : List ℕ) (m : ℕ) where
-  abbrev from : ℕ
-  from = section_at names w + w.names
+pub is_name : (target : ℕ) (bs : List ℕ) → length bs < 256 → ((i : ℕ) → get_or bs i 0 < 256) → Spells (length bs + 3) (name target bs) (words (name (low target) bs))
+is_name target bs few small = record { few = name_few (low target) bs; spelt = spelt target bs few small }
 
-  pub labels : RoomFor (naming (length bs + 3)) w S → Put (words (name t bs)) (Puts.part S from) z m
-      → PutsOne names (length bs + 3) (name target bs) w S (more names w m) (Puts.back S from z)
-  labels room put =
-      puts names (length bs + 3) (name target bs) (words (name t bs)) (spelt target bs few small ∙ ap (λ (y : ℕ). words (name y bs)) (sym e)) tt w S (more names w m) (Puts.back S from z)
-      (adds_put w S (words (name t bs)) (length bs + 3) (name_few t bs) names z m room put)
-
-  pub labels_member : (i : ℕ) → i < 4294967296 → RoomFor (naming (length bs + 4)) w S → Put (words (member_name t i bs)) (Puts.part S from) z m
-      → PutsOne names (length bs + 4) (member_name target i bs) w S (more names w m) (Puts.back S from z)
-  labels_member i hi room put =
-      puts names (length bs + 4) (member_name target i bs) (words (member_name t i bs)) (spelt_member target i bs hi few small ∙ ap (λ (y : ℕ). words (member_name y i bs)) (sym e)) tt w S (more names w m) (Puts.back S from z)
-      (adds_put w S (words (member_name t i bs)) (length bs + 4) (member_few t i bs) names z m room put)
+pub is_member_name : (target i : ℕ) (bs : List ℕ) → i < 4294967296 → length bs < 256 → ((j : ℕ) → get_or bs j 0 < 256) → Spells (length bs + 4) (member_name target i bs) (words (member_name (low target) i bs))
+is_member_name target i bs hi few small = record { few = member_few (low target) i bs; spelt = spelt_member target i bs hi few small }

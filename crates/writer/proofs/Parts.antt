@@ -4,7 +4,7 @@ use Prim.Native.Nat.{ℕ, zero, suc, ◌+◌, ◌-◌, ◌%◌, ◌≤◌, ◌<�
 use mathlib.Core.Path.{◌≡◌, refl, sym, ap, ◌∙◌}
 use mathlib.Core.Bool.{Bool, true, false, ◌&&◌}
 use mathlib.Core.List.{List, [], ◌∷◌, map}
-use mathlib.Core.Option.{Option, some, none}
+use Rattle.std.specs.Prelude.{Option, Some, None}
 use native.Mathlib.Omega.{arith}
 use native.Mathlib.Numerals.{add-one}
 use lib.Dec.{eqb, ltb}
@@ -17,8 +17,7 @@ use Rattle.definition.specs.State.{Composite, composite, same_composite, lookup,
 use Rattle.lookup.specs.Packed.{packed_key}
 use Rattle.lookup.proofs.Injective.{injective}
 use Rattle.writer.specs.declared.Writer.{Writer}
-use Rattle.writer.specs.declared.Sought.{Sought}
-use Rattle.writer.specs.Rows.{TableRow, table_row, triple, table_rows, part, same_list, seek_parts, sought_of}
+use Rattle.writer.specs.Rows.{TableRow, table_row, triple, table_rows, part, same_list, seek_parts}
 use Rattle.writer.specs.Regions.{composites_at, parts_at}
 use Rattle.writer.specs.Cost.{staging}
 use Rattle.writer.specs.Held.{Tables, All, SmallComposite, composite_key, parts_of_c, composite_row, all_parts, RoomIn}
@@ -68,6 +67,10 @@ pub parts_end : (a b : List ℕ) (j : ℕ) → length a ≤ j → length b ≤ j
 unfolding same_list
 parts_end a b j la lb = rw (drop_of_length-le a {i = j} la, drop_of_length-le b {i = j} lb)
 
+-- a slice is a window of the list
+pub lent : (T : List ℕ) (p n : ℕ) → take (p + n - p) (drop p T) ≡ part T p n
+lent T p n = let e : p + n - p ≡ n = omega arith in ap (λ (k : ℕ). part T p k) e
+
 -- a window of a list
 module _ (P : List ℕ) (o l : ℕ) (h : o + l ≤ length P) where
   pub part_length : length (part P o l) ≡ l
@@ -105,19 +108,19 @@ module _ (key : ℕ) (ps : List ℕ) (q : ℕ) (T : List ℕ) (p o : ℕ) where
   len = get_or T (p + 1) 0
 
   turn : (k m : ℕ) → k ≡ suc m → seek_parts key ps q T p o k
-      ≡ pick (ltb (q - o) len) none (pick (eqb (get_or T p 0) key && same_list (part T o len) ps) (some (get_or T (p + 2) 0)) (seek_parts key ps q T (p + 3) (o + len) m))
+      ≡ pick (ltb (q - o) len) None (pick (eqb (get_or T p 0) key && same_list (part T o len) ps) (Some (get_or T (p + 2) 0)) (seek_parts key ps q T (p + 3) (o + len) m))
   unfolding seek_parts
   turn k m e = ap (λ (j : ℕ). seek_parts key ps q T p o j) e
 
-  pub parts_over : (k : ℕ) → 0 < k → q - o < len → seek_parts key ps q T p o k ≡ none
+  pub parts_over : (k : ℕ) → 0 < k → q - o < len → seek_parts key ps q T p o k ≡ None
   parts_over k h l = turn k (k - 1) (omega arith) ∙ rw (lt-ltb (q - o) len l)
 
-  pub parts_ended : (k : ℕ) → k ≡ 0 → seek_parts key ps q T p o k ≡ none
+  pub parts_ended : (k : ℕ) → k ≡ 0 → seek_parts key ps q T p o k ≡ None
   unfolding seek_parts
   parts_ended k e = ap (λ (j : ℕ). seek_parts key ps q T p o j) e
 
   module _ (k m : ℕ) (h : k ≡ suc m) (l : len ≤ q - o) where
-    pub parts_hit : get_or T p 0 ≡ key → same_list (part T o len) ps ≡ true → seek_parts key ps q T p o k ≡ some (get_or T (p + 2) 0)
+    pub parts_hit : get_or T p 0 ≡ key → same_list (part T o len) ps ≡ true → seek_parts key ps q T p o k ≡ Some (get_or T (p + 2) 0)
     parts_hit e f = turn k m h ∙ rw (le-ltb (q - o) len l, eq-eqb _ _ e, f)
 
     pub other_key : (get_or T p 0 ≡ key → ⊥) → seek_parts key ps q T p o k ≡ seek_parts key ps q T (p + 3) (o + len) m
@@ -188,8 +191,8 @@ seek_composite v sv q T p o (suc n) (c ∷ cs) a e ho hq f =
   where
     go : (d : Dec (v ≡ c.0)) → {rest : Option ℕ} → rest ≡ lookup same_composite v cs
         → (b t : Bool) → eqb (composite_key c.0) (composite_key v) ≡ b → same_list (parts_of_c c.0) (parts_of_c v) ≡ t
-        → pick (eqb (composite_key c.0) (composite_key v) && same_list (parts_of_c c.0) (parts_of_c v)) (some c.1) rest
-        ≡ elim d [ yes x ↦ some c.1 | no x ↦ lookup same_composite v cs ]
+        → pick (eqb (composite_key c.0) (composite_key v) && same_list (parts_of_c c.0) (parts_of_c v)) (Some c.1) rest
+        ≡ elim d [ yes x ↦ Some c.1 | no x ↦ lookup same_composite v cs ]
     go (yes x) r b t u w =
         let y : composite_key c.0 ≡ composite_key v = sym (ap composite_key x) in
         let z : parts_of_c c.0 ≡ parts_of_c v = sym (ap parts_of_c x) in
@@ -199,8 +202,8 @@ seek_composite v sv q T p o (suc n) (c ∷ cs) a e ho hq f =
     go (no x) r true false u w = rw (u, w) r
     go (no x) r false t u w = rw u r
 
-pub finds_composite : (w : Writer) (T : List ℕ) (r : Sought) (key n : ℕ) → RoomIn (staging n) w T
-    → sought_of r ≡ seek_parts key (part T (parts_at w + w.parts) n) (parts_at w + w.parts) T (composites_at w) (parts_at w) w.composites → FindsComposite key n w T r
+pub finds_composite : (w : Writer) (T : List ℕ) (r : Option ℕ) (key n : ℕ) → RoomIn (staging n) w T
+    → r ≡ seek_parts key (part T (parts_at w + w.parts) n) (parts_at w + w.parts) T (composites_at w) (parts_at w) w.composites → FindsComposite key n w T r
 finds_composite w T r key n room q c sm e f S s h =
     let end = parts_at w + w.parts in
     let d : end - parts_at w ≡ w.parts = omega arith in

@@ -1,14 +1,18 @@
 -- Searching rows, and that a search of a table's rows is the definition's lookup: one law for any kind of key that is told apart by
 -- two numbers, and then each table as an instance of it.
-use Prim.Native.Nat.{ℕ, suc, ◌+◌, ◌*◌, ◌-◌, ◌≤◌, ◌<◌}
+use Prim.Native.Nat.{ℕ, zero, suc, ◌+◌, ◌*◌, ◌-◌, ◌<◌}
 use mathlib.Core.Path.{◌≡◌, refl, sym, ap, ◌∙◌}
 use mathlib.Core.Bool.{Bool, true, false, ◌&&◌}
 use mathlib.Core.List.{List, [], ◌∷◌, map}
-use mathlib.Core.Option.{some, none}
+use Rattle.std.specs.Prelude.{Option, Some, option_map}
 use native.Mathlib.Omega.{arith}
 use native.Mathlib.Decide.{ℕ_discrete}
 use lib.Dec.{eqb}
-use lib.ListN.{get_or}
+use lib.ListN.{length, get_or, take, drop}
+use lib.Seq.{drop-drop, get_or-take, get_or-drop, take-take}
+use Rattle.std.proofs.lemmas.List.{drop-take}
+use Rattle.std.specs.Simd.{first_chunks}
+use Rattle.std.specs.List.{find}
 use borrow.Author.Tests.{eq-eqb, eqb-true}
 use Rattle.definition.specs.Choice.{pick}
 use Rattle.definition.specs.Literals.{Literal, same_literal}
@@ -19,69 +23,81 @@ use Rattle.literals.proofs.Equal.{same_literal_lem}
 use Rattle.lookup.specs.Packed.{packed_key, Small}
 use Rattle.lookup.proofs.Injective.{injective}
 use Rattle.writer.specs.declared.Writer.{Writer}
-use Rattle.writer.specs.declared.Sought.{Sought}
-use Rattle.writer.specs.Rows.{TableRow, table_row, RowKind, pair, triple, row_length, row_at, table_rows, seek_in, sought_of}
+use Rattle.writer.specs.Rows.{TableRow, table_row, RowKind, pair, triple, row_length, row_at, table_rows, seek_in}
 use Rattle.writer.specs.Regions.{literals_at, nulls_at}
 use Rattle.writer.specs.Held.{Tables, All, key_row, literal_row, null_row}
 use Rattle.writer.specs.Steps.{FindsType, FindsLiteral, FindsNull}
 
--- ---- row by row, of either kind
+-- ---- rows as they are cut out of a list: what is found among the pieces is what is found among the rows
 
--- a row is not under the key
-abbrev pub Other : ℕ → ℕ → TableRow → Type 0
-Other a b r = r.second ≡ b → r.first ≡ a → ⊥
+abbrev pub pieces : RowKind → List ℕ → ℕ → ℕ → List (List ℕ)
+pieces k T p n = first_chunks (row_length k) n (take (row_length k * n) (drop p T))
 
-module _ (k : RowKind) (a b : ℕ) (T : List ℕ) (p : ℕ) where
-  turn : (n m : ℕ) → n ≡ suc m
-      → seek_in a b (table_rows k T p n) ≡ pick (eqb (row_at k T p).first a && eqb (row_at k T p).second b) (some (row_at k T p).id) (seek_in a b (table_rows k T (p + row_length k) m))
+more_pieces : (k : RowKind) (T : List ℕ) (p n : ℕ) → pieces k T p (suc n) ≡ take (row_length k) (drop p T) ∷ pieces k T (p + row_length k) n
+more_pieces k T p n =
+    let m : row_length k * suc n ≡ row_length k + row_length k * n = elim k as (λ j. row_length j * suc n ≡ row_length j + row_length j * n) [ pair ↦ omega arith | triple ↦ omega arith ] in
+    let q : row_length k + p ≡ p + row_length k = omega arith in
+    let first : take (row_length k) (take (row_length k * suc n) (drop p T)) ≡ take (row_length k) (drop p T) = rw m (take-take (row_length k) (row_length k + row_length k * n) (drop p T) (omega arith)) in
+    let others : drop (row_length k) (take (row_length k * suc n) (drop p T)) ≡ take (row_length k * n) (drop (p + row_length k) T) =
+    rw m (drop-take (row_length k) (row_length k * n) (drop p T)) ∙ ap (take (row_length k * n)) (drop-drop (row_length k) p T) in
+    λ i. first i ∷ first_chunks (row_length k) n (others i)
+
+piece_row : (k : RowKind) (T : List ℕ) (p : ℕ) → row_at k (take (row_length k) (drop p T)) 0 ≡ row_at k T p
+piece_row pair T p = λ i. table_row (one 0 p (omega arith) (omega arith) i) 0 (one 1 (p + 1) (omega arith) refl i)
+  where
+    one : (j q : ℕ) → j < 2 → p + j ≡ q → get_or (take 2 (drop p T)) j 0 ≡ get_or T q 0
+    one j q h e = get_or-take 2 (drop p T) j 0 h ∙ get_or-drop p T j 0 ∙ ap (λ (i : ℕ). get_or T i 0) e
+piece_row triple T p = λ i. table_row (one 0 p (omega arith) (omega arith) i) (one 1 (p + 1) (omega arith) refl i) (one 2 (p + 2) (omega arith) refl i)
+  where
+    one : (j q : ℕ) → j < 3 → p + j ≡ q → get_or (take 3 (drop p T)) j 0 ≡ get_or T q 0
+    one j q h e = get_or-take 3 (drop p T) j 0 h ∙ get_or-drop p T j 0 ∙ ap (λ (i : ℕ). get_or T i 0) e
+
+pub and_all : (c : Bool) → c ≡ (c && true)
+and_all true = refl
+and_all false = refl
+
+-- a test of pieces asks for the key
+abbrev pub Asks : RowKind → ℕ → ℕ → (List ℕ → Bool) → Type 0
+Asks k a b t = (r : List ℕ) → t r ≡ (eqb (row_at k r 0).first a && eqb (row_at k r 0).second b)
+
+module _ (k : RowKind) (a b : ℕ) (t : List ℕ → Bool) (asks : Asks k a b t) (T : List ℕ) where
+  pub finds_row : (p n : ℕ) → option_map (λ r. (row_at k r 0).id) (find t (pieces k T p n)) ≡ seek_in a b (table_rows k T p n)
   unfolding seek_in table_rows
-  turn n m e = ap (λ (j : ℕ). seek_in a b (table_rows k T p j)) e
-
-  pub hit : (n : ℕ) → 0 < n → (row_at k T p).second ≡ b → (row_at k T p).first ≡ a → seek_in a b (table_rows k T p n) ≡ some (row_at k T p).id
-  hit n h f e = turn n (n - 1) (omega arith) ∙ rw (eq-eqb _ _ e, eq-eqb _ _ f)
-
-  pub miss : (n m q : ℕ) → n ≡ suc m → q ≡ p + row_length k → Other a b (row_at k T p) → seek_in a b (table_rows k T p n) ≡ seek_in a b (table_rows k T q m)
-  miss n m q h g d =
-      turn n m h ∙ go (eqb (row_at k T p).first a) (eqb (row_at k T p).second b) refl refl ∙ ap (λ (j : ℕ). seek_in a b (table_rows k T j m)) (sym g)
+  finds_row p zero = refl
+  finds_row p (suc n) =
+      ap (λ (rs : List (List ℕ)). option_map (λ r. (row_at k r 0).id) (find t rs)) (more_pieces k T p n)
+      ∙ go (t (take (row_length k) (drop p T))) refl (finds_row (p + row_length k) n)
     where
-      go : (s t : Bool) → eqb (row_at k T p).first a ≡ s → eqb (row_at k T p).second b ≡ t
-          → pick (s && t) (some (row_at k T p).id) (seek_in a b (table_rows k T (p + row_length k) m)) ≡ seek_in a b (table_rows k T (p + row_length k) m)
-      go true true e f = absurd (d (eqb-true _ _ f) (eqb-true _ _ e))
-      go true false e f = refl
-      go false t e f = refl
+      is : t (take (row_length k) (drop p T)) ≡ (eqb (row_at k T p).first a && eqb (row_at k T p).second b)
+      is = asks (take (row_length k) (drop p T)) ∙ ap (λ (r : TableRow). eqb r.first a && eqb r.second b) (piece_row k T p)
 
-  pub ended : (n : ℕ) → n ≡ 0 → seek_in a b (table_rows k T p n) ≡ none
-  unfolding seek_in table_rows
-  ended n e = ap (λ (j : ℕ). seek_in a b (table_rows k T p j)) e
+      go : (c : Bool) → t (take (row_length k) (drop p T)) ≡ c → option_map (λ r. (row_at k r 0).id) (find t (pieces k T (p + row_length k) n)) ≡ seek_in a b (table_rows k T (p + row_length k) n)
+          → option_map (λ r. (row_at k r 0).id) (find t ((take (row_length k) (drop p T)) ∷ pieces k T (p + row_length k) n))
+          ≡ pick (eqb (row_at k T p).first a && eqb (row_at k T p).second b) (Some (row_at k T p).id) (seek_in a b (table_rows k T (p + row_length k) n))
+      go true e r = rw (e, sym is ∙ e) (ap (λ (y : TableRow). Some y.id) (piece_row k T p))
+      go false e r = rw (e, sym is ∙ e) r
 
--- four rows of n
-module _ (k : RowKind) (a b : ℕ) (T : List ℕ) (p n : ℕ) (h : 4 ≤ n) (first : Other a b (row_at k T p)) where
-  pub miss1 : seek_in a b (table_rows k T p n) ≡ seek_in a b (table_rows k T (p + row_length k) (n - 1))
-  miss1 = miss k a b T p n (n - 1) (p + row_length k) (omega arith) refl first
+-- the slice that is cut is as long as the rows
+pub cut : (k : RowKind) (T : List ℕ) (p n l : ℕ) → l ≡ n → first_chunks (row_length k) l (take (p + row_length k * n - p) (drop p T)) ≡ pieces k T p n
+cut k T p n l e =
+    let f : p + row_length k * n - p ≡ row_length k * n = elim k as (λ j. p + row_length j * n - p ≡ row_length j * n) [ pair ↦ omega arith | triple ↦ omega arith ] in
+    λ i. first_chunks (row_length k) (e i) (take (f i) (drop p T))
 
-  module _ (second : Other a b (row_at k T (p + row_length k))) where
-    pub miss2 : seek_in a b (table_rows k T p n) ≡ seek_in a b (table_rows k T (p + 2 * row_length k) (n - 2))
-    miss2 = miss1 ∙ miss k a b T (p + row_length k) (n - 1) (n - 2) (p + 2 * row_length k) (omega arith) (omega arith) second
+-- a triple's numbers, where they stand in the list
+piece_at : (T : List ℕ) (p n i : ℕ) → i < n → get_or (pieces triple T p n) i [] ≡ take 3 (drop (p + 3 * i) T)
+piece_at T p zero i h = absurd (omega arith)
+piece_at T p (suc n) zero h = let e : p ≡ p + 3 * 0 = omega arith in ap (λ (l : List (List ℕ)). get_or l 0 []) (more_pieces triple T p n) ∙ ap (λ (q : ℕ). take 3 (drop q T)) e
+piece_at T p (suc n) (suc i) h = let e : p + 3 + 3 * i ≡ p + 3 * suc i = omega arith in
+    ap (λ (l : List (List ℕ)). get_or l (suc i) []) (more_pieces triple T p n) ∙ piece_at T (p + 3) n i (omega arith) ∙ ap (λ (q : ℕ). take 3 (drop q T)) e
 
-    module _ (third : Other a b (row_at k T (p + 2 * row_length k))) where
-      pub miss3 : seek_in a b (table_rows k T p n) ≡ seek_in a b (table_rows k T (p + 3 * row_length k) (n - 3))
-      miss3 = miss2 ∙ miss k a b T (p + 2 * row_length k) (n - 2) (n - 3) (p + 3 * row_length k) (omega arith) (omega arith) third
+pub pieces_length : (T : List ℕ) (p n : ℕ) → length (pieces triple T p n) ≡ n
+pieces_length T p zero = refl
+pieces_length T p (suc n) = ap (λ (l : List (List ℕ)). length l) (more_pieces triple T p n) ∙ ap suc (pieces_length T (p + 3) n)
 
-      pub miss4 : Other a b (row_at k T (p + 3 * row_length k)) → seek_in a b (table_rows k T p n) ≡ seek_in a b (table_rows k T (p + 4 * row_length k) (n - 4))
-      miss4 fourth = miss3 ∙ miss k a b T (p + 3 * row_length k) (n - 3) (n - 4) (p + 4 * row_length k) (omega arith) (omega arith) fourth
-
--- ---- the same with the numbers at places that the code computes
-
-module _ (a : ℕ) (T : List ℕ) (p : ℕ) where
-  pub hit_pair : (n z : ℕ) → 0 < n → z ≡ p + 1 → get_or T p 0 ≡ a → seek_in a 0 (table_rows pair T p n) ≡ some (get_or T z 0)
-  hit_pair n z h g e = hit pair a 0 T p n h refl e ∙ ap (λ (j : ℕ). some (get_or T j 0)) (sym g)
-
-module _ (a b : ℕ) (T : List ℕ) (p y : ℕ) (f : y ≡ p + 1) where
-  pub hit_triple : (n z : ℕ) → 0 < n → z ≡ p + 2 → get_or T y 0 ≡ b → get_or T p 0 ≡ a → seek_in a b (table_rows triple T p n) ≡ some (get_or T z 0)
-  hit_triple n z h g d e = hit triple a b T p n h (ap (λ (j : ℕ). get_or T j 0) (sym f) ∙ d) e ∙ ap (λ (j : ℕ). some (get_or T j 0)) (sym g)
-
-  pub other_triple : (get_or T y 0 ≡ b → get_or T p 0 ≡ a → ⊥) → Other a b (row_at triple T p)
-  other_triple d g e = d (ap (λ (j : ℕ). get_or T j 0) f ∙ g) e
+pub cell : (T : List ℕ) (p n i j x : ℕ) (rows : List (List ℕ)) → rows ≡ pieces triple T p n → i < n → j < 3 → p + 3 * i + j ≡ x → get_or (get_or rows i []) j 0 ≡ get_or T x 0
+cell T p n i j x rows e h l f =
+    ap (λ (rs : List (List ℕ)). get_or (get_or rs i []) j 0) e ∙ ap (λ (r : List ℕ). get_or r j 0) (piece_at T p n i h)
+    ∙ get_or-take 3 (drop (p + 3 * i) T) j 0 l ∙ get_or-drop (p + 3 * i) T j 0 ∙ ap (λ (y : ℕ). get_or T y 0) f
 
 -- ---- a table's rows
 
@@ -94,8 +110,8 @@ module _ {A : Type 0} (alike : Discrete A) (f g : A → ℕ) (P : A → Type 0)
     where
       go : (d : Dec (k ≡ x.0)) → seek_in (f k) (g k) (map (λ (x : A × ℕ). table_row (f x.0) (g x.0) x.1) xs) ≡ lookup alike k xs
           → (b c : Bool) → eqb (f x.0) (f k) ≡ b → eqb (g x.0) (g k) ≡ c
-          → pick (eqb (f x.0) (f k) && eqb (g x.0) (g k)) (some x.1) (seek_in (f k) (g k) (map (λ (x : A × ℕ). table_row (f x.0) (g x.0) x.1) xs))
-          ≡ elim d [ yes p ↦ some x.1 | no p ↦ lookup alike k xs ]
+          → pick (eqb (f x.0) (f k) && eqb (g x.0) (g k)) (Some x.1) (seek_in (f k) (g k) (map (λ (x : A × ℕ). table_row (f x.0) (g x.0) x.1) xs))
+          ≡ elim d [ yes p ↦ Some x.1 | no p ↦ lookup alike k xs ]
       go (yes e) r b c p q = rw (eq-eqb (f x.0) (f k) (sym (ap f e)), eq-eqb (g x.0) (g k) (sym (ap g e)))
       go (no n) r true true p q = absurd (n (sym (apart x.0 k h.0 pk (eqb-true _ _ p) (eqb-true _ _ q))))
       go (no n) r true false p q = rw (p, q) r
@@ -116,14 +132,14 @@ seek_null n t = is_lookup ℕ_discrete (λ x. x) (λ x. 0) (λ x. Unit) (λ x y 
 
 -- ---- the writer's tables
 
-module _ (w : Writer) (T : List ℕ) (r : Sought) where
-  pub finds_type : (key : ℕ) → sought_of r ≡ seek_in key 0 (table_rows pair T 0 w.types) → FindsType key w T r
+module _ (w : Writer) (T : List ℕ) (r : Option ℕ) where
+  pub finds_type : (key : ℕ) → r ≡ seek_in key 0 (table_rows pair T 0 w.types) → FindsType key w T r
   finds_type key q k sm e S s h =
       q ∙ ap (λ (n : ℕ). seek_in n 0 (table_rows pair T 0 w.types)) e ∙ ap (λ (t : Tables). seek_in (packed_key k) 0 t.types) h.tables ∙ seek_key k sm s.types h.small.keys
 
-  pub finds_literal : (form bits : ℕ) → sought_of r ≡ seek_in form bits (table_rows triple T (literals_at w) w.literals) → FindsLiteral form bits w T r
+  pub finds_literal : (form bits : ℕ) → r ≡ seek_in form bits (table_rows triple T (literals_at w) w.literals) → FindsLiteral form bits w T r
   finds_literal form bits q l e f S s h =
       q ∙ (λ j. seek_in (e j) (f j) (table_rows triple T (literals_at w) w.literals)) ∙ ap (λ (t : Tables). seek_in (literal_form l) (bits_of l) t.literals) h.tables ∙ seek_literal l s.constants.literals
 
-  pub finds_null : (ty : ℕ) → sought_of r ≡ seek_in ty 0 (table_rows pair T (nulls_at w) w.nulls) → FindsNull ty w T r
+  pub finds_null : (ty : ℕ) → r ≡ seek_in ty 0 (table_rows pair T (nulls_at w) w.nulls) → FindsNull ty w T r
   finds_null ty q S s h = q ∙ ap (λ (t : Tables). seek_in ty 0 t.nulls) h.tables ∙ seek_null ty s.constants.nulls

@@ -5,23 +5,18 @@ use mathlib.Core.List.{List, [], ◌∷◌, map}
 use native.Mathlib.Omega.{arith}
 use lib.ListN.{length, get_or}
 use Rattle.definition.specs.Instructions.{Instruction, words, decorate, member_decorate, type_op, type_void, type_array, type_runtime_array, type_pointer, constant_true, constant_false, constant_null, constant_op, constant_composite, variable}
-use Rattle.spirv.specs.declared.instructions.Initializer.{Initializer}
-use Rattle.spirv.specs.declared.instructions.Initializer.TheVariants.{Nothing, Id}
+use Rattle.std.specs.Prelude.{Option, None, Some, option_map}
 use Rattle.spirv.specs.Put.{Put}
-use Rattle.spirv.specs.Ids.{low, initializer_of, init_word}
-use Rattle.spirv.proofs.Ids.{low-length, low_words}
+use Rattle.spirv.specs.Ids.{low}
+use Rattle.std.proofs.lemmas.List.{length-map}
+use Rattle.spirv.proofs.Ids.{low_words}
 use Rattle.spirv.proofs.Puts as Puts
 use Rattle.writer.specs.declared.Writer.{Writer}
-use Rattle.writer.specs.Regions.{section_at, Section, used, more}
+use Rattle.writer.specs.Regions.{section_at, Section, names, annotations, declarations, used, more}
 use Rattle.writer.specs.Cost.{section_words}
 use Rattle.writer.specs.Held.{RoomFor}
-use Rattle.writer.specs.Steps.{Spelt, Alone, Puts as PutsOne}
+use Rattle.writer.specs.Steps.{Spells, Alone, Puts as PutsOne}
 use Rattle.writer.proofs.Words.{adds_put, adds_count, puts}
-
--- at most n words, which are an instruction's
-pub record Spells (n : ℕ) (i : Instruction) (ws : List ℕ) : Type 0 where
-  pub few : length ws ≤ n
-  pub spelt : Spelt i ws
 
 -- put into the part that was lent, they are put behind those of their section
 module _ (b : Section) {n : ℕ} {i : Instruction} {ws : List ℕ} (k : Spells n i ws) {w : Writer} {S z : List ℕ} {m : ℕ} (room : RoomFor (section_words b n) w S) (put : Put ws (Puts.part S (section_at b w + used b w)) z m) where
@@ -30,6 +25,12 @@ module _ (b : Section) {n : ℕ} {i : Instruction} {ws : List ℕ} (k : Spells n
 
   pub put_one : Alone b i → PutsOne b n i w S (more b w m) (Puts.back S (section_at b w + used b w) z)
   put_one a = puts b n i ws k.spelt a w S (more b w m) (Puts.back S (section_at b w + used b w) z) (adds_put w S ws n k.few b z m room put)
+
+-- there is room for them
+pub room_for : (b : Section) {n : ℕ} {i : Instruction} {ws : List ℕ} {w : Writer} {S : List ℕ} → Spells n i ws → RoomFor (section_words b n) w S → RoomFor (section_words b (length ws)) w S
+room_for names k room = let f = k.few in omega arith
+room_for annotations k room = let f = k.few in omega arith
+room_for declarations k room = let f = k.few in omega arith
 
 -- ---- annotations
 
@@ -125,7 +126,7 @@ two_words_lem ty id a b hty hid ha hb =
 pub type_of_lem : (op : ℕ) → op < 65536 → (id : ℕ) (xs : List ℕ) {x : ℕ} → x ≡ low id → length xs < 65000 → Spells (length xs + 2) (type_op op id xs) (words (type_op op x (map low xs)))
 unfolding words
 type_of_lem op small id xs e few =
-    let l = low-length xs in
+    let l = length-map xs low in
     let f : low (65536 * suc (suc (length xs)) + op) ≡ 65536 * suc (suc (length (map low xs))) + op = omega (arith, l) in
     let p = sym e in
     record { few = omega (arith, l); spelt = λ j. f j ∷ p j ∷ map low xs }
@@ -133,20 +134,20 @@ type_of_lem op small id xs e few =
 pub composite_of_lem : (ty id : ℕ) (xs : List ℕ) {ty' id' : ℕ} → ty' ≡ low ty → id' ≡ low id → length xs < 65000 → Spells (length xs + 3) (constant_composite ty id xs) (words (constant_composite ty' id' (map low xs)))
 unfolding words
 composite_of_lem ty id xs e g few =
-    let l = low-length xs in
+    let l = length-map xs low in
     let f : low (65536 * suc (suc (suc (length xs))) + 44) ≡ 65536 * suc (suc (suc (length (map low xs)))) + 44 = omega (arith, l) in
     let p = sym e in
     let q = sym g in
     record { few = omega (arith, l); spelt = λ j. f j ∷ p j ∷ q j ∷ map low xs }
 
-pub variable_of : (ty id class : ℕ) (o : Initializer) {ty' id' : ℕ} → ty' ≡ low ty → id' ≡ low id → class < 4294967296 → Spells 5 (variable ty id class (initializer_of o)) (words (variable ty' id' class (init_word o)))
+pub variable_of : (ty id class : ℕ) (o : Option ℕ) {ty' id' : ℕ} → ty' ≡ low ty → id' ≡ low id → class < 4294967296 → Spells 5 (variable ty id class o) (words (variable ty' id' class (option_map low o)))
 unfolding words
-variable_of ty id class Nothing e g h =
+variable_of ty id class None e g h =
     let p = sym e in
     let q = sym g in
     let r : low class ≡ class = omega arith in
     record { few = omega arith; spelt = λ j. 262203 ∷ p j ∷ q j ∷ r j ∷ [] }
-variable_of ty id class (Id x) e g h =
+variable_of ty id class (Some x) e g h =
     let p = sym e in
     let q = sym g in
     let r : low class ≡ class = omega arith in

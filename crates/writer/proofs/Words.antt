@@ -2,14 +2,14 @@
 -- the instruction's behind them, and tables and other sections stay; each kind of instruction is then an instance.
 use Prim.Native.Nat.{ℕ, zero, suc, ◌+◌, ◌≤◌, ◌<◌}
 use mathlib.Core.Path.{◌≡◌, refl, sym, ap, ◌∙◌, subst}
-use mathlib.Core.Bool.{Bool, true, false}
+use mathlib.Core.Bool.{Bool, true, false, ◌||◌}
 use mathlib.Core.List.{List, [], ◌∷◌, ◌++◌, append_assoc, append-nil, map}
 use native.Mathlib.Omega.{arith}
-use native.Mathlib.Numerals.{add-one}
 use lib.Dec.{eqb}
-use lib.ListN.{length, get_or, take, drop}
-use lib.Seq.{slice, slice-cons, slice_empty, take-add, drop-drop}
-use borrow.Author.Tests.{eq-eqb, ne_eqb}
+use lib.ListN.{length, take, drop}
+use lib.Seq.{take-add, drop-drop}
+use borrow.Author.Tests.{eq-eqb, ne_eqb, eqb-true}
+use Rattle.std.specs.List.{list_any}
 use Rattle.definition.specs.Choice.{pick}
 use Rattle.definition.specs.Instructions.{Instruction, words, all_words}
 use Rattle.definition.specs.State.{State, occurrences, same, list_one, listed}
@@ -17,7 +17,6 @@ use Rattle.definition.specs.Rules.{blocked_by, blocked}
 use Rattle.spirv.specs.Put.{Put}
 use Rattle.spirv.specs.Sections.{splice}
 use Rattle.spirv.proofs.Puts as Puts
-use Rattle.lookup.specs.Local.{as_list}
 use Rattle.writer.specs.declared.Writer.{Writer}
 use Rattle.spirv.specs.Ids.{low}
 use Rattle.writer.specs.Rows.{part, is_listed}
@@ -135,20 +134,17 @@ puts b n i ws e q w S v S' a = record { grown = a.grown; held = a.held i e q }
 -- ---- capabilities
 
 -- the search
-module _ (c : ℕ) (xs : List ℕ) (n i : ℕ) (h : i < n) (l : n ≤ length xs) where
-  turn : is_listed c (slice i n xs) ≡ pick (eqb c (get_or xs i 0)) true (is_listed c (slice (suc i) n xs))
-  unfolding is_listed
-  turn = ap (is_listed c) (slice-cons i n xs 0 h l)
-
-  pub listed_hit : get_or xs i 0 ≡ c → is_listed c (slice i n xs) ≡ true
-  listed_hit e = turn ∙ rw (eq-eqb c (get_or xs i 0) (sym e))
-
-  pub listed_miss : (get_or xs i 0 ≡ c → ⊥) → is_listed c (slice i n xs) ≡ is_listed c (slice (i + 1) n xs)
-  listed_miss e = turn ∙ rw (ne_eqb c (get_or xs i 0) (λ q. e (sym q))) (ap (λ (j : ℕ). is_listed c (slice j n xs)) (sym (add-one i)))
-
-pub listed_none : (c : ℕ) (xs : List ℕ) (n : ℕ) → is_listed c (slice n n xs) ≡ false
+pub is_any : (c : ℕ) (xs : List ℕ) → is_listed c xs ≡ list_any (λ x. eqb x c) xs
 unfolding is_listed
-listed_none c xs n = ap (is_listed c) (slice_empty n xs)
+is_any c [] = refl
+is_any c (x ∷ xs) = go (eqb c x) refl (is_any c xs)
+  where
+    go : (t : Bool) → eqb c x ≡ t → is_listed c xs ≡ list_any (λ y. eqb y c) xs → pick (eqb c x) true (is_listed c xs) ≡ (eqb x c || list_any (λ y. eqb y c) xs)
+    go true e r = rw (e, eq-eqb x c (sym (eqb-true c x e)))
+    go false e r = rw (e, ne_eqb x c (λ q. no (sym e ∙ eq-eqb c x (sym q)))) r
+      where
+        no : false ≡ true → ⊥
+        no z = cc
 
 -- what the definition makes of its answer
 old : (c : ℕ) (xs : List ℕ) → is_listed c xs ≡ true → list_one (occurrences c xs) c xs ≡ xs
@@ -181,71 +177,66 @@ new c xs e = ap (λ (n : ℕ). list_one n c xs) (count xs e)
 
 module _ (w : Writer) (S : List ℕ) (c : ℕ) where
   -- nothing to list
-  lists_none : c ≡ 0 → Listed (as_list c) w S w S
+  lists_none : Listed [] w S w S
   unfolding listed
-  lists_none e = rw e (record { grown = omega arith; held = λ T s h. h })
+  lists_none = record { grown = omega arith; held = λ T s h. h }
 
-  module _ (n : c ≡ 0 → ⊥) where
-    one : as_list c ≡ c ∷ []
-    one = rw (ne_eqb c 0 n)
+  lists_old : is_listed c (part S 0 w.capabilities) ≡ true → Listed (c ∷ []) w S w S
+  unfolding listed
+  lists_old e = record {
+    grown = omega arith;
+    held = λ T s h.
+        let q : s.capabilities ≡ list_one (occurrences c s.capabilities) c s.capabilities =
+        sym (old c s.capabilities (sym (ap (λ (t : Sections). is_listed c t.capabilities) h.sections) ∙ e)) in
+        record {
+          last = h.last;
+          tables = h.tables;
+          small = h.small;
+          sections = h.sections ∙ (λ i. record { capabilities = q i; names = (sections_in s).names; annotations = (sections_in s).annotations; declarations = (sections_in s).declarations });
+        };
+  }
 
-    lists_old : is_listed c (part S 0 w.capabilities) ≡ true → Listed (as_list c) w S w S
-    unfolding listed
-    lists_old e = rw one (record {
-      grown = omega arith;
-      held = λ T s h.
-          let q : s.capabilities ≡ list_one (occurrences c s.capabilities) c s.capabilities =
-          sym (old c s.capabilities (sym (ap (λ (t : Sections). is_listed c t.capabilities) h.sections) ∙ e)) in
-          record {
-            last = h.last;
-            tables = h.tables;
-            small = h.small;
-            sections = h.sections ∙ (λ i. record { capabilities = q i; names = (sections_in s).names; annotations = (sections_in s).annotations; declarations = (sections_in s).declarations });
-          };
-    })
-
-    lists_new : is_listed c (part S 0 w.capabilities) ≡ false → RoomFor (listing_cost 1) w S → Listed (as_list c) w S (with_capabilities w (w.capabilities + 1)) (splice S w.capabilities (c ∷ []))
-    unfolding listed
-    lists_new e room = rw one (record {
-      grown = omega arith;
-      held = λ T s h.
-          let p = w.capabilities in
-          let q : s.capabilities ++ c ∷ [] ≡ list_one (occurrences c s.capabilities) c s.capabilities =
-          sym (new c s.capabilities (sym (ap (λ (t : Sections). is_listed c t.capabilities) h.sections) ∙ e)) in
-          let f : sections_of (with_capabilities w (w.capabilities + 1)) (splice S p (c ∷ [])) ≡ record { capabilities = (sections_of w S).capabilities ++ c ∷ []; names = (sections_of w S).names; annotations = (sections_of w S).annotations; declarations = (sections_of w S).declarations } = λ i. record {
-            capabilities = part_more S 0 p p (c ∷ []) (omega arith) (omega arith) i;
-            names = part_right S p (c ∷ []) (omega arith) (section_at names w) w.names (omega arith) i;
-            annotations = part_right S p (c ∷ []) (omega arith) (section_at annotations w) w.annotations (omega arith) i;
-            declarations = part_right S p (c ∷ []) (omega arith) (section_at declarations w) w.declarations (omega arith) i;
-          } in
-          record {
-            last = h.last;
-            tables = h.tables;
-            small = h.small;
-            sections = f ∙ ap (λ (t : Sections). record { capabilities = t.capabilities ++ c ∷ []; names = t.names; annotations = t.annotations; declarations = t.declarations }) h.sections
-                ∙ (λ i. record { capabilities = q i; names = (sections_in s).names; annotations = (sections_in s).annotations; declarations = (sections_in s).declarations });
-          };
-    })
+  lists_new : is_listed c (part S 0 w.capabilities) ≡ false → RoomFor (listing_cost 1) w S → Listed (c ∷ []) w S (with_capabilities w (w.capabilities + 1)) (splice S w.capabilities (c ∷ []))
+  unfolding listed
+  lists_new e room = record {
+    grown = omega arith;
+    held = λ T s h.
+        let p = w.capabilities in
+        let q : s.capabilities ++ c ∷ [] ≡ list_one (occurrences c s.capabilities) c s.capabilities =
+        sym (new c s.capabilities (sym (ap (λ (t : Sections). is_listed c t.capabilities) h.sections) ∙ e)) in
+        let f : sections_of (with_capabilities w (w.capabilities + 1)) (splice S p (c ∷ [])) ≡ record { capabilities = (sections_of w S).capabilities ++ c ∷ []; names = (sections_of w S).names; annotations = (sections_of w S).annotations; declarations = (sections_of w S).declarations } = λ i. record {
+          capabilities = part_more S 0 p p (c ∷ []) (omega arith) (omega arith) i;
+          names = part_right S p (c ∷ []) (omega arith) (section_at names w) w.names (omega arith) i;
+          annotations = part_right S p (c ∷ []) (omega arith) (section_at annotations w) w.annotations (omega arith) i;
+          declarations = part_right S p (c ∷ []) (omega arith) (section_at declarations w) w.declarations (omega arith) i;
+        } in
+        record {
+          last = h.last;
+          tables = h.tables;
+          small = h.small;
+          sections = f ∙ ap (λ (t : Sections). record { capabilities = t.capabilities ++ c ∷ []; names = t.names; annotations = t.annotations; declarations = t.declarations }) h.sections
+              ∙ (λ i. record { capabilities = q i; names = (sections_in s).names; annotations = (sections_in s).annotations; declarations = (sections_in s).declarations });
+        };
+  }
 
 -- the same by their count
 module _ (S : List ℕ) (n c : ℕ) where
-  pub counts_none : c ≡ 0 → CountListed (as_list c) n S n S
-  counts_none z = record { few = omega arith; lists = λ w e room. subst (λ (k : ℕ). Listed (as_list c) w S (with_capabilities w k) S) e (lists_none w S c z) }
+  pub counts_none : CountListed [] n S n S
+  counts_none = record { few = omega arith; lists = λ w e room. subst (λ (k : ℕ). Listed [] w S (with_capabilities w k) S) e (lists_none w S c) }
 
-  module _ (z : c ≡ 0 → ⊥) where
-    pub counts_old : is_listed c (part S 0 n) ≡ true → CountListed (as_list c) n S n S
-    counts_old l = record {
-      few = omega arith;
-      lists = λ w e room. subst (λ (k : ℕ). Listed (as_list c) w S (with_capabilities w k) S) e (lists_old w S c z (ap (λ (k : ℕ). is_listed c (part S 0 k)) e ∙ l));
-    }
+  pub counts_old : is_listed c (part S 0 n) ≡ true → CountListed (c ∷ []) n S n S
+  counts_old l = record {
+    few = omega arith;
+    lists = λ w e room. subst (λ (k : ℕ). Listed (c ∷ []) w S (with_capabilities w k) S) e (lists_old w S c (ap (λ (k : ℕ). is_listed c (part S 0 k)) e ∙ l));
+  }
 
-    pub counts_new : is_listed c (part S 0 n) ≡ false → CountListed (as_list c) n S (n + 1) (splice S n (c ∷ []))
-    counts_new l = record {
-      few = omega arith;
-      lists = λ w e room.
-          subst (λ (k : ℕ). Listed (as_list c) w S (with_capabilities w (k + 1)) (splice S k (c ∷ []))) e
-          (lists_new w S c z (ap (λ (k : ℕ). is_listed c (part S 0 k)) e ∙ l) room);
-    }
+  pub counts_new : is_listed c (part S 0 n) ≡ false → CountListed (c ∷ []) n S (n + 1) (splice S n (c ∷ []))
+  counts_new l = record {
+    few = omega arith;
+    lists = λ w e room.
+        subst (λ (k : ℕ). Listed (c ∷ []) w S (with_capabilities w (k + 1)) (splice S k (c ∷ []))) e
+        (lists_new w S c (ap (λ (k : ℕ). is_listed c (part S 0 k)) e ∙ l) room);
+  }
 
 -- ---- an instruction word by word
 

@@ -1,6 +1,6 @@
 -- How a writer and its two lists hold a state.
 use Rattle.std.specs.Prelude.{ℕ, ◌+◌, ◌*◌, ◌≤◌, ◌<◌, ◌≡◌, List, [], ◌∷◌, ◌++◌, map, length}
-use Rattle.std.proofs.Math.Option.{Option, some, none}
+use Rattle.std.specs.Prelude.{Option, Some, None}
 use Rattle.definition.specs.Literals.{Literal}
 use Rattle.definition.specs.Instructions.{Instruction, all_words}
 use Rattle.definition.specs.Shapes.{Kind, Key}
@@ -63,8 +63,8 @@ abbrev pub null_row : ℕ × ℕ → TableRow
 null_row x = table_row x.0 0 x.1
 
 abbrev pub kind_code : Option Kind → ℕ
-kind_code none = 0
-kind_code (some k) = 1 + code k
+kind_code None = 0
+kind_code (Some k) = 1 + code k
 
 abbrev pub value_row : Valued → TableRow
 value_row v = table_row v.id v.type (kind_code v.kind)

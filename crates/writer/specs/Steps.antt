@@ -1,6 +1,6 @@
 -- What an operation promises: whatever state is held before it, the state after it is held then.
 use Rattle.std.specs.Prelude.{ℕ, suc, ◌+◌, ◌*◌, ◌≤◌, ◌≡◌, Bool, List, [], ◌++◌, map, ltb, length, get_or}
-use Rattle.std.proofs.Math.Option.{Option}
+use Rattle.std.specs.Prelude.{Option}
 use Rattle.std.proofs.Math.Decide.{ℕ_discrete}
 use Rattle.definition.specs.Choice.{pick, among}
 use Rattle.definition.specs.Literals.{Literal, same_literal}
@@ -14,9 +14,12 @@ use Rattle.lookup.specs.Packed.{packed_key, Small}
 use Rattle.writer.specs.declared.Writer.{Writer}
 use Rattle.writer.specs.declared.Taken.{Taken}
 use Rattle.writer.specs.declared.WrittenConstant.{WrittenConstant}
-use Rattle.writer.specs.declared.Sought.{Sought}
+use Rattle.std.specs.Fn.{FnOnceReturnsAtMut}
+use denote.Param.Members.{Once}
+use denote.Ref.{MutBor}
+use Rattle.spirv.specs.Put.{Put}
 use Rattle.spirv.specs.Ids.{low}
-use Rattle.writer.specs.Rows.{part, sought_of}
+use Rattle.writer.specs.Rows.{part}
 use Rattle.writer.specs.Regions.{values_at, parts_at, section_at, Section, names, annotations, declarations, add_to}
 use Rattle.writer.specs.Cost.{Cost, an_id, a_type, a_literal, a_null, a_value, a_composite, listing_cost, declaring, section_words}
 use Rattle.writer.specs.Held.{kind_code, SmallKind, Held, RoomFor, Grown, SmallComposite, composite_key, parts_of_c}
@@ -63,19 +66,19 @@ pub record Took (w : Writer) (r : Taken) : Type 0 where
 
 -- ---- searches: each is the definition's lookup
 
-abbrev pub FindsType : ℕ → Writer → List ℕ → Sought → Type 0
-FindsType key w T r = (k : Key) → Small k → key ≡ packed_key k → (S : List ℕ) (s : State) → Held w T S s → sought_of r ≡ lookup same_key k s.types
+abbrev pub FindsType : ℕ → Writer → List ℕ → Option ℕ → Type 0
+FindsType key w T r = (k : Key) → Small k → key ≡ packed_key k → (S : List ℕ) (s : State) → Held w T S s → r ≡ lookup same_key k s.types
 
-abbrev pub FindsLiteral : ℕ → ℕ → Writer → List ℕ → Sought → Type 0
-FindsLiteral form bits w T r = (l : Literal) → form ≡ literal_form l → bits ≡ bits_of l → (S : List ℕ) (s : State) → Held w T S s → sought_of r ≡ lookup same_literal l s.constants.literals
+abbrev pub FindsLiteral : ℕ → ℕ → Writer → List ℕ → Option ℕ → Type 0
+FindsLiteral form bits w T r = (l : Literal) → form ≡ literal_form l → bits ≡ bits_of l → (S : List ℕ) (s : State) → Held w T S s → r ≡ lookup same_literal l s.constants.literals
 
-abbrev pub FindsNull : ℕ → Writer → List ℕ → Sought → Type 0
-FindsNull t w T r = (S : List ℕ) (s : State) → Held w T S s → sought_of r ≡ lookup ℕ_discrete t s.constants.nulls
+abbrev pub FindsNull : ℕ → Writer → List ℕ → Option ℕ → Type 0
+FindsNull t w T r = (S : List ℕ) (s : State) → Held w T S s → r ≡ lookup ℕ_discrete t s.constants.nulls
 
 -- its parts are the n that stand behind those in use
-abbrev pub FindsComposite : ℕ → ℕ → Writer → List ℕ → Sought → Type 0
+abbrev pub FindsComposite : ℕ → ℕ → Writer → List ℕ → Option ℕ → Type 0
 FindsComposite key n w T r = (c : Composite) → SmallComposite c → key ≡ composite_key c → part T (parts_at w + w.parts) n ≡ parts_of_c c → (S : List ℕ) (s : State) → Held w T S s
-    → sought_of r ≡ lookup same_composite c s.constants.composites
+    → r ≡ lookup same_composite c s.constants.composites
 
 -- ---- entries; each operation has only the list that it writes, and what is held stays held whatever the other is
 
@@ -146,6 +149,15 @@ Alone declarations i = Unit
 pub record Adds (b : Section) (n : ℕ) (ws : List ℕ) (w : Writer) (S : List ℕ) (v : Writer) (S' : List ℕ) : Type 0 where
   pub grown : Grown (section_words b n) w v
   pub held : (i : Instruction) → Spelt i ws → Alone b i → (T : List ℕ) (s : State) → Held w T S s → Held v T S' (add_to b i s)
+
+-- at most n words, which are an instruction's
+pub record Spells (n : ℕ) (i : Instruction) (ws : List ℕ) : Type 0 where
+  pub few : length ws ≤ n
+  pub spelt : Spelt i ws
+
+-- a call puts these words into what it is lent
+abbrev pub PutsWords : {F : Type 0} → Once F (MutBor (List ℕ) × Unit {0}) (ℕ × (MutBor (List ℕ) × Unit {0})) → F → List ℕ → Type 0
+PutsWords g f ws = (s : List ℕ) (n : ℕ) (t : List ℕ) → FnOnceReturnsAtMut g f s n t → Put ws s t n
 
 -- the same of one instruction
 pub record Puts (b : Section) (n : ℕ) (i : Instruction) (w : Writer) (S : List ℕ) (v : Writer) (S' : List ℕ) : Type 0 where

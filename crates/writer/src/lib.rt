@@ -5,21 +5,23 @@
 
 pub mod sections;
 
-ghost use Rattle.std.specs.Prelude.{◌≡◌, List, [], ◌∷◌, ℕ, ◌+◌, ◌*◌, ◌≤◌, ◌<◌, length};
+ghost use Rattle.std.specs.Prelude.{◌≡◌, List, [], ◌∷◌, ℕ, ◌+◌, ◌*◌, ◌≤◌, ◌<◌, length, Bool, option_map};
+ghost use Rattle.std.specs.List.{find};
 ghost use Rattle.definition.specs.State.{empty, annotate};
 ghost use Rattle.definition.specs.Rules.{block, block_once};
-ghost use Rattle.definition.specs.Instructions.{constant_composite, type_function, name, member_name};
+ghost use Rattle.definition.specs.Instructions.{Instruction, constant_composite, type_function, name, member_name};
 ghost use Rattle.spirv.specs.Sections.{splice};
-ghost use Rattle.lookup.specs.Local.{as_list};
-ghost use Rattle.writer.specs.Rows.{pair, triple, table_rows, seek_in, same_list, seek_parts, sought_of, part, is_listed};
+ghost use Rattle.lookup.specs.Local.{one_or_none};
+ghost use Rattle.writer.specs.Rows.{Computes, pair, triple, table_rows, seek_in, same_list, seek_parts, part};
 ghost use Rattle.writer.specs.Regions.{parts_at, names, annotations, declarations};
 ghost use Rattle.writer.specs.Cost.{no_cost, a_type, a_literal, a_null, a_value, a_composite, staging, naming, a_block, declaring};
 ghost use Rattle.writer.specs.Held.{Held, RoomIn, RoomFor, Room};
-ghost use Rattle.writer.specs.Steps.{fresh, Kept, FindsBlock, Took, FindsType, FindsLiteral, FindsNull, FindsComposite, EnteredType, EnteredLiteral, EnteredNull, EnteredComposite, EnteredValue, ValueAt, Puts, CountListed, Pending, Committed};
+ghost use Rattle.writer.specs.Steps.{fresh, Kept, FindsBlock, Took, FindsType, FindsLiteral, FindsNull, FindsComposite, EnteredType, EnteredLiteral, EnteredNull, EnteredComposite, EnteredValue, ValueAt, Puts, PutsWords, Spells, CountListed, Pending, Committed};
 
 use crate::sections::{constant_composite, type_function};
 use spirv::instructions::DECORATION_BLOCK;
-use spirv::{IdGenerator, low_word};
+use spirv::words::Word;
+use spirv::{IdGenerator, instructions, low_word};
 
 // Where a table starts, in multiples of `records`: a record adds four types at most and one row to each other table. A row is
 // a key and an id, two numbers, of types and nulls, and three of the others. Behind them stand the ids that carry Block, as many
@@ -78,13 +80,6 @@ pub struct WrittenConstant {
     pub kind: u64,
 }
 
-// What a search comes to.
-#[derive(Clone, Copy)]
-pub enum Sought {
-    Id(u64),
-    Absent,
-}
-
 // A writer that holds nothing but the last id already given out.
 pub fn new(records: usize, bytes: usize, start: u64) -> Writer
     ensures { (result ≡ fresh records bytes start) × ((T S : List ℕ) → Held result T S (empty start)) }
@@ -123,97 +118,61 @@ pub fn take_id(mut w: Writer) -> Taken
 
 // ---- tables: searched in order of entry
 
-// The id of the first of n rows under a key of one number.
-fn seek_key(tables: &[u64], start: usize, n: usize, a: u64) -> Sought
-    requires { start + 2 * n ≤ length tables.now }
-    ensures { sought_of result ≡ seek_in a 0 (table_rows pair tables.now start n) }
+// The first row that passes, four a turn: `find`, which looks for the end at each row, takes twice the instructions.
+fn first<T, P: Fn(&T) -> bool + Drop>(rows: &[T], passes: P) -> Option<&T>
+    requires { P.IsAlwaysCallable passes }
+    ensures { (t : T → Bool) → Computes P.Fn passes t → option_map (λ r. r.now) result ≡ find t rows.now }
 {
-    let mut p = start;
-    let mut left = n;
-    'fours: while 4 <= left {
-        if tables[p] == a {
-            return Sought::Id(tables[p + 1]);
+    let fours = rows.chunks_exact(4);
+    let rest = fours.remainder();
+    for four in fours {
+        for row in four {
+            if passes(row) {
+                return Some(row);
+            }
         }
-        if tables[p + 2] == a {
-            return Sought::Id(tables[p + 3]);
-        }
-        if tables[p + 4] == a {
-            return Sought::Id(tables[p + 5]);
-        }
-        if tables[p + 6] == a {
-            return Sought::Id(tables[p + 7]);
-        }
-        p += 8;
-        left -= 4;
     }
-    'rest: while 0 < left {
-        if tables[p] == a {
-            return Sought::Id(tables[p + 1]);
+    for row in rest {
+        if passes(row) {
+            return Some(row);
         }
-        p += 2;
-        left -= 1;
     }
-    Sought::Absent
+    None
+}
+
+// The id of the first of n rows under a key of one number.
+fn seek_key(tables: &[u64], start: usize, n: usize, a: u64) -> Option<u64>
+    requires { start + 2 * n ≤ length tables.now }
+    ensures { result ≡ seek_in a 0 (table_rows pair tables.now start n) }
+{
+    let (rows, _) = tables[start..start + 2 * n].as_chunks::<2>();
+    first(rows, |row| row[0] == a).map(|row| row[1])
 }
 
 // The same of a key of two numbers; the second first, in which rows mostly differ.
-fn seek(tables: &[u64], start: usize, n: usize, a: u64, b: u64) -> Sought
+fn seek(tables: &[u64], start: usize, n: usize, a: u64, b: u64) -> Option<u64>
     requires { start + 3 * n ≤ length tables.now }
-    ensures { sought_of result ≡ seek_in a b (table_rows triple tables.now start n) }
+    ensures { result ≡ seek_in a b (table_rows triple tables.now start n) }
 {
-    let mut p = start;
-    let mut left = n;
-    'fours: while 4 <= left {
-        if tables[p + 1] == b {
-            if tables[p] == a {
-                return Sought::Id(tables[p + 2]);
-            }
-        }
-        if tables[p + 4] == b {
-            if tables[p + 3] == a {
-                return Sought::Id(tables[p + 5]);
-            }
-        }
-        if tables[p + 7] == b {
-            if tables[p + 6] == a {
-                return Sought::Id(tables[p + 8]);
-            }
-        }
-        if tables[p + 10] == b {
-            if tables[p + 9] == a {
-                return Sought::Id(tables[p + 11]);
-            }
-        }
-        p += 12;
-        left -= 4;
-    }
-    while 0 < left {
-        if tables[p + 1] == b {
-            if tables[p] == a {
-                return Sought::Id(tables[p + 2]);
-            }
-        }
-        p += 3;
-        left -= 1;
-    }
-    Sought::Absent
+    let (rows, _) = tables[start..start + 3 * n].as_chunks::<3>();
+    first(rows, |row| row[1] == b && row[0] == a).map(|row| row[2])
 }
 
-pub fn find_type(tables: &[u64], w: Writer, key: u64) -> Sought
+pub fn find_type(tables: &[u64], w: Writer, key: u64) -> Option<u64>
     requires { RoomIn no_cost w tables.now }
     ensures { FindsType key w tables.now result }
 {
     seek_key(tables, 0, w.types, key)
 }
 
-pub fn find_literal(tables: &[u64], w: Writer, form: u64, bits: u64) -> Sought
+pub fn find_literal(tables: &[u64], w: Writer, form: u64, bits: u64) -> Option<u64>
     requires { RoomIn no_cost w tables.now }
     ensures { FindsLiteral form bits w tables.now result }
 {
     seek(tables, LITERALS * w.records, w.literals, form, bits)
 }
 
-pub fn find_null(tables: &[u64], w: Writer, ty: u64) -> Sought
+pub fn find_null(tables: &[u64], w: Writer, ty: u64) -> Option<u64>
     requires { RoomIn no_cost w tables.now }
     ensures { FindsNull ty w tables.now result }
 {
@@ -221,6 +180,8 @@ pub fn find_null(tables: &[u64], w: Writer, ty: u64) -> Sought
 }
 
 // Whether the n numbers from p on are those from q on: the last first, in which composites that begin alike often differ.
+// By hand four a turn: `==` of the slices takes up to half as long again; `zip` and `all` over what `as_chunks` cuts into fours
+// is as fast, but is not proved.
 fn same_parts(tables: &[u64], p: usize, q: usize, n: usize) -> bool
     requires { (p + n ≤ length tables.now) × (q + n ≤ length tables.now) }
     ensures { result ≡ same_list (part tables.now p n) (part tables.now q n) }
@@ -266,38 +227,27 @@ fn seek_parts(
     q: usize,
     m: usize,
     key: u64,
-) -> Sought
+) -> Option<u64>
     requires { (start + 3 * n ≤ length tables.now) × (parts ≤ q) × (q + m ≤ length tables.now) }
-    ensures { sought_of result ≡ seek_parts key (part tables.now q m) q tables.now start parts n }
+    ensures { result ≡ seek_parts key (part tables.now q m) q tables.now start parts n }
 {
-    let mut i = 0;
-    let mut p = start;
-    let mut o = parts;
-    'entries: while i < n {
-        let e = p;
-        let f = o;
-        let l = tables[p + 1] as usize;
-        if q - o < l {
-            return Sought::Absent;
+    let (rows, _) = tables[start..start + 3 * n].as_chunks::<3>();
+    let mut at = parts;
+    for row in rows {
+        let count = row[1] as usize;
+        if q - at < count {
+            return None;
         }
-        i += 1;
-        p += 3;
-        o += l;
-        if tables[e] != key {
-            continue 'entries;
+        if row[0] == key && count == m && same_parts(tables, at, q, m) {
+            return Some(row[2]);
         }
-        if l != m {
-            continue 'entries;
-        }
-        if same_parts(tables, f, q, l) {
-            return Sought::Id(tables[e + 2]);
-        }
+        at += count;
     }
-    Sought::Absent
+    None
 }
 
 // The composite under a key of the n parts that stand behind those in use.
-pub fn find_composite(tables: &[u64], w: Writer, key: u64, n: usize) -> Sought
+pub fn find_composite(tables: &[u64], w: Writer, key: u64, n: usize) -> Option<u64>
     requires { RoomIn (staging n) w tables.now }
     ensures { FindsComposite key n w tables.now result }
 {
@@ -313,28 +263,19 @@ pub fn find_composite(tables: &[u64], w: Writer, key: u64, n: usize) -> Sought
     )
 }
 
-fn put_pair(tables: &mut [u64], p: usize, a: u64, id: u64)
-    requires { p + 2 ≤ length tables.old }
-    ensures { tables.new ≡ splice tables.old p (a ∷ id ∷ []) }
+// Puts a row at a place.
+fn put_row<const N: usize>(tables: &mut [u64], p: usize, row: [u64; N])
+    requires { p + N ≤ length tables.old }
+    ensures { tables.new ≡ splice tables.old p row.entry }
 {
-    tables[p] = a;
-    tables[p + 1] = id;
-}
-
-fn put_row(tables: &mut [u64], p: usize, a: u64, b: u64, id: u64)
-    requires { p + 3 ≤ length tables.old }
-    ensures { tables.new ≡ splice tables.old p (a ∷ b ∷ id ∷ []) }
-{
-    tables[p] = a;
-    tables[p + 1] = b;
-    tables[p + 2] = id;
+    tables[p..p + N].copy_from_slice(&row);
 }
 
 pub fn enter_type(tables: &mut [u64], mut w: Writer, key: u64, id: u64) -> Writer
     requires { RoomIn a_type w tables.old }
     ensures { EnteredType key id w tables.old result tables.new }
 {
-    put_pair(tables, 2 * w.types, key, id);
+    put_row(tables, 2 * w.types, [key, id]);
     w.types += 1;
     w
 }
@@ -346,9 +287,7 @@ pub fn enter_literal(tables: &mut [u64], mut w: Writer, form: u64, bits: u64, id
     put_row(
         tables,
         LITERALS * w.records + 3 * w.literals,
-        form,
-        bits,
-        id,
+        [form, bits, id],
     );
     w.literals += 1;
     w
@@ -358,7 +297,7 @@ pub fn enter_null(tables: &mut [u64], mut w: Writer, ty: u64, id: u64) -> Writer
     requires { RoomIn a_null w tables.old }
     ensures { EnteredNull ty id w tables.old result tables.new }
 {
-    put_pair(tables, NULLS * w.records + 2 * w.nulls, ty, id);
+    put_row(tables, NULLS * w.records + 2 * w.nulls, [ty, id]);
     w.nulls += 1;
     w
 }
@@ -368,7 +307,7 @@ pub fn enter_value(tables: &mut [u64], mut w: Writer, id: u64, ty: u64, kind: u6
     requires { RoomIn a_value w tables.old }
     ensures { EnteredValue id ty kind w tables.old result tables.new }
 {
-    put_row(tables, VALUES * w.records + 3 * w.values, id, ty, kind);
+    put_row(tables, VALUES * w.records + 3 * w.values, [id, ty, kind]);
     w.values += 1;
     w
 }
@@ -412,9 +351,7 @@ pub fn enter_composite(tables: &mut [u64], mut w: Writer, key: u64, n: usize, id
     put_row(
         tables,
         COMPOSITES * w.records + 3 * w.composites,
-        key,
-        n as u64,
-        id,
+        [key, n as u64, id],
     );
     w.composites += 1;
     w.parts += n;
@@ -423,22 +360,33 @@ pub fn enter_composite(tables: &mut [u64], mut w: Writer, key: u64, n: usize, id
 
 // ---- names, and what is put from the tables; `sections` has the other instructions
 
+// Puts an instruction behind the names in use, into what is left there, and adds its words to the count.
+fn put_name<F: FnOnce(&mut [u32]) -> usize>(sections: &mut [u32], mut w: Writer, put: F) -> Writer
+    requires callable { F.IsAlwaysCallable put }
+    requires room { (ws : List ℕ) × PutsWords F.FnOnce put ws × RoomFor (naming (length ws)) w sections.old }
+    ensures { (i : Instruction) (n : ℕ) (ws : List ℕ) → PutsWords F.FnOnce put ws → Spells n i ws → RoomFor (naming n) w sections.old → Puts names n i w sections.old result sections.new }
+{
+    let start = NAMES * w.bytes + w.names;
+    w.names += put(&mut sections[start..]);
+    w
+}
+
 // Whether names are wanted is for the caller to ask (flag bit 0).
-pub fn label(sections: &mut [u32], mut w: Writer, target: u64, bytes: &[u8]) -> Writer
+pub fn label(sections: &mut [u32], w: Writer, target: u64, bytes: &[u8]) -> Writer
     requires { (length bytes.now < 256) × RoomFor (naming (length bytes.now + 3)) w sections.old }
     ensures { Puts names (length bytes.now + 3) (name target bytes.now) w sections.old result sections.new }
 {
-    let start = NAMES * w.bytes + w.names;
-    let t = low_word(target);
-    let n = spirv::instructions::name(&mut sections[start..], t, bytes);
-    w.names += n;
-    w
+    put_name(
+        sections,
+        w,
+        |left| instructions::name(left, low_word(target), bytes),
+    )
 }
 
 // The same of a member, which has no id of its own: the struct's, and its place there.
 pub fn label_member(
     sections: &mut [u32],
-    mut w: Writer,
+    w: Writer,
     target: u64,
     member: u32,
     bytes: &[u8],
@@ -446,11 +394,11 @@ pub fn label_member(
     requires { (length bytes.now < 256) × RoomFor (naming (length bytes.now + 4)) w sections.old }
     ensures { Puts names (length bytes.now + 4) (member_name target member bytes.now) w sections.old result sections.new }
 {
-    let start = NAMES * w.bytes + w.names;
-    let t = low_word(target);
-    let n = spirv::instructions::member_name(&mut sections[start..], t, member, bytes);
-    w.names += n;
-    w
+    put_name(
+        sections,
+        w,
+        |left| instructions::member_name(left, low_word(target), member, bytes),
+    )
 }
 
 fn put_word(sections: &mut [u32], p: usize, x: u32)
@@ -505,15 +453,8 @@ fn is_blocked(tables: &[u64], w: Writer, id: u64) -> bool
     requires { RoomIn no_cost w tables.now }
     ensures { FindsBlock id w tables.now result }
 {
-    let mut p = BLOCKED * w.records;
-    let end = p + w.blocked;
-    while p < end {
-        if tables[p] == id {
-            return true;
-        }
-        p += 1;
-    }
-    false
+    let start = BLOCKED * w.records;
+    tables[start..start + w.blocked].contains(&id)
 }
 
 // Puts Block on an id that has none yet, which is for the caller to know.
@@ -523,7 +464,7 @@ pub fn put_block(tables: &mut [u64], sections: &mut [u32], mut w: Writer, id: u6
 {
     let start = ANNOTATIONS * w.bytes + w.annotations;
     let t = low_word(id);
-    let n = spirv::instructions::decorate(&mut sections[start..], t, DECORATION_BLOCK, &[]);
+    let n = instructions::decorate(&mut sections[start..], t, DECORATION_BLOCK, &[]);
     let p = BLOCKED * w.records + w.blocked;
     tables[p] = id;
     w.annotations += n;
@@ -563,32 +504,18 @@ pub fn commit(mut w: Writer, n: usize) -> Writer
 
 // ---- capabilities
 
-// Whether a number stands among the first n words.
-fn is_listed(sections: &[u32], n: usize, c: u32) -> bool
-    requires { n ≤ length sections.now }
-    ensures { result ≡ is_listed c (part sections.now 0 n) }
-{
-    let mut i = 0;
-    while i < n {
-        if sections[i] == c {
-            return true;
-        }
-        i += 1;
-    }
-    false
-}
-
-// Lists a capability behind n others at its first use; 0 is none. What comes back is how many are listed then.
-pub fn listed(sections: &mut [u32], n: usize, c: u32) -> usize
+// Lists a capability, if there is one, behind n others at its first use. What comes back is how many are listed then.
+pub fn listed<C: Word>(sections: &mut [u32], n: usize, capability: Option<C>) -> usize
     requires { n < length sections.old }
-    ensures { CountListed (as_list c) n sections.old result sections.new }
+    ensures { CountListed (one_or_none (option_map C.as_word capability)) n sections.old result sections.new }
 {
-    if c == 0 {
+    let Some(capability) = capability else {
+        return n;
+    };
+    let number = capability.word();
+    if sections[..n].contains(&number) {
         return n;
     }
-    if is_listed(sections, n, c) {
-        return n;
-    }
-    put_word(sections, n, c);
+    put_word(sections, n, number);
     n + 1
 }

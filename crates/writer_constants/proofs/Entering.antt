@@ -3,7 +3,7 @@
 use Prim.Native.Nat.{ℕ, ◌+◌, ◌*◌, ◌-◌, ◌<◌, ◌%◌, ◌/◌}
 use mathlib.Core.Path.{◌≡◌, refl, sym, ap, ◌∙◌, subst}
 use mathlib.Core.List.{List}
-use mathlib.Core.Option.{Option, some, none}
+use Rattle.std.specs.Prelude.{Option, Some, None}
 use native.Mathlib.Nat.{mod-eq_of_lt as mod-of-lt}
 use native.Mathlib.Omega.{arith}
 use lib.Dec.{eqb}
@@ -35,16 +35,16 @@ use Rattle.writer_constants.specs.Entered.{composite_cost, expression_cost, Type
 -- ---- kinds
 
 -- only a type of tag 16 has a kind
-pub no_kind : (t : ℕ) (b : List ℕ) (n : ℕ) → (t ≡ 16 → ⊥) → kind_of_scalar (type_fields t b n).value ≡ none
+pub no_kind : (t : ℕ) (b : List ℕ) (n : ℕ) → (t ≡ 16 → ⊥) → kind_of_scalar (type_fields t b n).value ≡ None
 unfolding type_fields
 no_kind t b n h =
-    let P : Fields TypeInner → Type 0 = λ f. kind_of_scalar f.value ≡ none in
+    let P : Fields TypeInner → Type 0 = λ f. kind_of_scalar f.value ≡ None in
     rw (ne_eqb t 16 h)
     (pick_for P (eqb t 17) _ _ refl (pick_for P (eqb t 18) _ _ refl (pick_for P (eqb t 19) _ _ refl (pick_for P (eqb t 20) _ _ refl (pick_for P (eqb t 21) _ _ refl
     (pick_for P (eqb t 22) _ _ refl (pick_for P (eqb t 23) _ _ refl (pick_for P (eqb t 24) _ _ refl
     (pick_for P (eqb t 25) _ _ refl (pick_for P (eqb t 26) _ _ refl (pick_for P (eqb t 27) _ _ refl refl)))))))))))
 
-pub one_kind : (t : ℕ) (b : List ℕ) (n : ℕ) → t ≡ 16 → kind_of_scalar (type_fields t b n).value ≡ some (kind_of (u8_at b n) (u8_at b (n + 1)))
+pub one_kind : (t : ℕ) (b : List ℕ) (n : ℕ) → t ≡ 16 → kind_of_scalar (type_fields t b n).value ≡ Some (kind_of (u8_at b n) (u8_at b (n + 1)))
 unfolding type_fields
 one_kind t b n h = rw (eq-eqb t 16 h)
 
@@ -61,15 +61,15 @@ unfolding kind_of
 splat_none size kind e = record { cost = refl; is = go }
   where
     go : (o : Option Kind) → kind ≡ kind_code o → SmallKind o → shape (vector size bool) ≡ shape (vector size (or_else bool o))
-    go none q m = refl
-    go (some k) q m = absurd (omega arith)
+    go None q m = refl
+    go (Some k) q m = absurd (omega arith)
 
 pub splat_some : (size kind x y : ℕ) → (kind ≡ 0 → ⊥) → x ≡ (kind - 1) % 4 → y ≡ (kind - 1) / 4 % 256 → SplatType size kind (shape (vector size (kind_of x y)))
 splat_some size kind x y n ex ey = record { cost = refl; is = go }
   where
     go : (o : Option Kind) → kind ≡ kind_code o → SmallKind o → shape (vector size (kind_of x y)) ≡ shape (vector size (or_else bool o))
-    go none q m = absurd (n q)
-    go (some k) q m =
+    go None q m = absurd (n q)
+    go (Some k) q m =
         let z : kind - 1 ≡ code k = omega arith in
         let c : x ≡ code k % 4 = ex ∙ ap (λ (i : ℕ). i % 4) z in
         let u : code k / 4 < 256 = omega arith in
@@ -80,7 +80,7 @@ splat_some size kind x y n ex ey = record { cost = refl; is = go }
 pub splat_room : (n kind : ℕ) (k : Key) → SplatType n kind k → (c : ℕ) (w : Writer) (T S : List ℕ) → Room (expression_cost (Splat n c)) w T S → Room (composite_cost k n ⊕ a_value) w T S
 splat_room n kind k sp c w T S h = subst (λ (y : Cost). Room (y ⊕ an_id ⊕ declaring (n + 3) ⊕ a_composite n ⊕ a_value) w T S) (sym sp.cost) h
 
-literal_small : (L : Lit.Literal) → SmallKind (some (literal_kind L))
+literal_small : (L : Lit.Literal) → SmallKind (Some (literal_kind L))
 literal_small (f64 n) = omega arith
 literal_small (f32 n) = omega arith
 literal_small (u32 n) = omega arith
@@ -101,13 +101,13 @@ found_entered k kind ty g T v T' t x = record {
 -- ---- the expressions
 
 module _ (ts : List TypeEntry) (w : Writer) (T S : List ℕ) where
-  pub value_entered : (L : Lit.Literal) (g : Taken) (T₁ S₁ : List ℕ) → GotBy literal_cost (literal L) w T S g T₁ S₁ → (k : Key) → k ≡ shape (scalar (literal_kind L)) → (kind : ℕ) → kind ≡ kind_code (some (literal_kind L))
+  pub value_entered : (L : Lit.Literal) (g : Taken) (T₁ S₁ : List ℕ) → GotBy literal_cost (literal L) w T S g T₁ S₁ → (k : Key) → k ≡ shape (scalar (literal_kind L)) → (kind : ℕ) → kind ≡ kind_code (Some (literal_kind L))
       → (v : Writer) (T₂ : List ℕ) → EnteredFound k kind g T₁ v T₂ → ConstantWritten (expression_cost (Value L)) ts (Value L) w T S v T₂ S₁
   unfolding declare_constant constant_of
   value_entered L g T₁ S₁ p k ek kind e v T₂ x = record {
     grown = omega (arith, p.grown, x.grown);
-    held = λ s h. subst (λ (j : Key). Held v T₂ S₁ (enter_value (got_value j (some (literal_kind L)) (literal L s)).value (literal L s).state)) ek
-        (x.held (some (literal_kind L)) e (literal_small L) S₁ (literal L s) (p.gives s h));
+    held = λ s h. subst (λ (j : Key). Held v T₂ S₁ (enter_value (got_value j (Some (literal_kind L)) (literal L s)).value (literal L s).state)) ek
+        (x.held (Some (literal_kind L)) e (literal_small L) S₁ (literal L s) (p.gives s h));
   }
 
   pub alias_entered : (c : ℕ) (r : Read.WrittenConstant) → ValueAt c w T r → (v : Writer) (T₂ : List ℕ) → EnteredValue r.id r.ty r.kind w T v T₂ → ConstantWritten a_value ts (Alias c) w T S v T₂ S
@@ -136,11 +136,11 @@ module _ (ts : List TypeEntry) (w : Writer) (T S : List ℕ) where
 
   -- a composite whose parts were put behind those in use
   composite_entered : (k : Key) (n : ℕ) (ps : State → List ℕ) (T₁ : List ℕ) → Staged n ps w T T₁ → (c : Cost) (g : Taken) (T₂ S₂ : List ℕ) → FoundBy c (composite_of k (part T₁ (parts_at w + w.parts) n)) w T₁ S g T₂ S₂
-      → (v : Writer) (T₃ : List ℕ) → EnteredFound k 0 g T₂ v T₃ → (s : State) → Held w T S s → Held v T₃ S₂ (enter_value (got_value k none (composite_of k (ps s) s)).value (composite_of k (ps s) s).state)
+      → (v : Writer) (T₃ : List ℕ) → EnteredFound k 0 g T₂ v T₃ → (s : State) → Held w T S s → Held v T₃ S₂ (enter_value (got_value k None (composite_of k (ps s) s)).value (composite_of k (ps s) s).state)
   composite_entered k n ps T₁ st c g T₂ S₂ q v T₃ x s h =
       let y : State → List ℕ → Got = λ s l. composite_of k l s in
       let b = subst (λ (l : List ℕ). Gives (y s l) g.id g.writer T₂ S₂) (st.parts S s h) (q.gives s (st.held S s h)) in
-      x.held none refl (omega arith) S₂ (composite_of k (ps s) s) b
+      x.held None refl (omega arith) S₂ (composite_of k (ps s) s) b
 
   pub compose_entered : (t n : ℕ) (cs : List ℕ) → length cs ≡ n → (T₁ : List ℕ) → Staged n (λ (s : State). ids_of s cs) w T T₁
       → (g : Taken) (T₂ S₂ : List ℕ) → FoundBy (composite_cost (entry t) n) (composite_of (entry t) (part T₁ (parts_at w + w.parts) n)) w T₁ S g T₂ S₂
@@ -162,6 +162,6 @@ module _ (ts : List TypeEntry) (w : Writer) (T S : List ℕ) where
             let i = p.held S s h in
             let a = i.id in
             let ek = sp.is (value_at s c).kind i.kind i.small in
-            subst (Held v T₃ S₂) (λ j. enter_value (got_value (ek j) none (composite_of (ek j) (replicate n (a j)) s)).value (composite_of (ek j) (replicate n (a j)) s).state)
+            subst (Held v T₃ S₂) (λ j. enter_value (got_value (ek j) None (composite_of (ek j) (replicate n (a j)) s)).value (composite_of (ek j) (replicate n (a j)) s).state)
             (composite_entered k n (λ (s : State). replicate n r.id) T₁ st (composite_cost k n) g T₂ S₂ q v T₃ x s h);
       }

@@ -1,16 +1,17 @@
 -- Test 13 of constants: parts of one type, parts of a struct's members, and the places that a type gives. The two loops are
 -- proved by what is left: a part that fits leaves the same test of the rest, one that does not decides it.
-use Prim.Native.Nat.{ℕ, zero, suc, ◌+◌, ◌-◌, ◌≤◌, ◌<◌}
+use Prim.Native.Nat.{ℕ, zero, suc, ◌+◌, ◌*◌, ◌≤◌, ◌<◌}
 use mathlib.Core.Path.{◌≡◌, refl, sym, ap, ◌∙◌, subst}
 use mathlib.Core.Bool.{Bool, true, false, ◌&&◌, not}
-use mathlib.Core.List.{List}
-use mathlib.Core.Option.{Option, some, none}
+use mathlib.Core.List.{List, [], ◌∷◌}
+use Rattle.std.specs.Prelude.{Option, Some, None}
 use native.Mathlib.Omega.{arith}
-use lib.Dec.{eqb, leb}
-use borrow.Author.Tests.{eq-eqb, ne_eqb, lt-ltb, le-ltb, le-leb, lt-leb}
+use lib.Dec.{eqb}
+use lib.ListN.{length}
+use borrow.Author.Tests.{eq-eqb, ne_eqb, lt-ltb, le-ltb}
 use Rattle.definition.specs.Choice.{or_else}
 use Rattle.definition.specs.Bytes.{u8_at, u16_at, u32_at, name_end}
-use Rattle.definition.specs.Sheet.{Fields, TypeInner, type_fields, u16s_at, members_at}
+use Rattle.definition.specs.Sheet.{Fields, Member, TypeInner, type_fields, u16s_at, members_at}
 use Rattle.definition.specs.Tests.{member_types, present}
 use Rattle.definition.specs.Shapes.{Kind, Key, kind_of, scalar, vector, entry, shape}
 use Rattle.definition.specs.State.{State, id_of}
@@ -55,35 +56,56 @@ module _ (w : Writer) (T b : List ℕ) (n size : ℕ) (k : Key) where
 
 -- ---- parts of a struct's members
 
-module _ (s : State) (d : List ℕ) (p : ℕ) (b : List ℕ) (q : ℕ) where
-  abbrev rest : ℕ → ℕ → Bool
-  rest k m = members_fit s (member_types (members_at d (name_end d (p + 6)) k)) (u16s_at b (q + 2) m)
+-- there are not as many
+pub other_number : (s : State) (b : List ℕ) (ms : List Member) (p n : ℕ) → (n ≡ length ms → ⊥) → members_fit s (member_types ms) (u16s_at b p n) ≡ false
+unfolding member_types u16s_at members_fit
+other_number s b [] p zero h = absurd (h refl)
+other_number s b [] p (suc n) h = refl
+other_number s b (m ∷ ms) p zero h = refl
+other_number s b (m ∷ ms) p (suc n) h = go (of_type s (entry m.type) (u16_at b p)) (other_number s b ms (p + 2) n (λ e. h (ap suc e)))
+  where
+    go : (x : Bool) {y : Bool} → y ≡ false → (x && y) ≡ false
+    go true e = e
+    go false e = refl
 
-  abbrev here : ℕ → ℕ → Bool
-  here k m = members_fit s (member_types (members_at d p k)) (u16s_at b q m)
+-- of all the members, ms are left, the first of which is for part i
+pub record Matching (w : Writer) (T b : List ℕ) (n : ℕ) (all ms : List Member) (i : ℕ) : Type 0 where
+  pub count : i + length ms ≡ n
+  pub same : (S : List ℕ) (s : State) → Held w T S s → members_fit s (member_types all) (u16s_at b 4 n) ≡ members_fit s (member_types ms) (u16s_at b (4 + 2 * i) (length ms))
 
-  member_turn : (k k' m m' : ℕ) → k ≡ suc k' → m ≡ suc m' → here k m ≡ (of_type s (entry (u16_at d p)) (u16_at b q) && rest k' m')
-  unfolding members_at member_types u16s_at members_fit
-  member_turn k k' m m' e f = λ j. members_fit s (member_types (members_at d p (e j))) (u16s_at b q (f j))
+module _ (w : Writer) (T b : List ℕ) (n : ℕ) (all : List Member) where
+  pub unmatched : n ≡ length all → Matching w T b n all all 0
+  unmatched e = record { count = omega (arith, e); same = λ S s h. ap (λ j. members_fit s (member_types all) (u16s_at b 4 j)) e }
 
-  module _ (k k' m m' : ℕ) (e : k ≡ suc k') (f : m ≡ suc m') (t id : ℕ) (et : t ≡ (value_at s (u16_at b q)).type) (ei : id ≡ or_else 0 (id_of s (entry (u16_at d p)))) where
-    pub member_same : t ≡ id → here k m ≡ rest k' m'
-    member_same h = member_turn k k' m m' e f ∙ rw (eq-eqb (value_at s (u16_at b q)).type (or_else 0 (id_of s (entry (u16_at d p)))) (sym et ∙ h ∙ ei))
+  module _ (i : ℕ) (m : Member) (ms all' : List Member) (e : all' ≡ m ∷ ms) (g : Matching w T b n all all' i) where
+    abbrev place : ℕ
+    place = 4 + 2 * i
 
-    pub member_other : (t ≡ id → ⊥) → here k m ≡ false
-    member_other h = member_turn k k' m m' e f ∙ rw (ne_eqb (value_at s (u16_at b q)).type (or_else 0 (id_of s (entry (u16_at d p)))) (λ z. h (et ∙ z ∙ sym ei)))
+    pub in_place : i < n
+    in_place = omega (arith, g.count, ap length e)
 
-  pub parts_lack : (k k' m : ℕ) → k ≡ suc k' → m ≡ 0 → here k m ≡ false
-  unfolding members_at member_types u16s_at members_fit
-  parts_lack k k' m e f = λ j. members_fit s (member_types (members_at d p (e j))) (u16s_at b q (f j))
+    member_turn : (S : List ℕ) (s : State) → Held w T S s → members_fit s (member_types all) (u16s_at b 4 n) ≡ (of_type s (entry m.type) (u16_at b place) && members_fit s (member_types ms) (u16s_at b (place + 2) (length ms)))
+    unfolding member_types u16s_at members_fit
+    member_turn S s h = g.same S s h ∙ ap (λ (l : List Member). members_fit s (member_types l) (u16s_at b place (length l))) e
 
-  pub members_end_lem : (k n i : ℕ) → k ≡ 0 → here k (n - i) ≡ leb n i
-  unfolding members_at member_types u16s_at members_fit
-  members_end_lem k n i e = ap (λ (j : ℕ). here j (n - i)) e ∙ go (n - i) refl
-    where
-      go : (m : ℕ) → n - i ≡ m → here 0 m ≡ leb n i
-      go zero f = sym (le-leb n i (omega arith))
-      go (suc m) f = sym (lt-leb n i (omega arith))
+    module _ (v : WrittenConstant) (c : ℕ) (read : ValueAt c w T v) (ec : c ≡ u16_at b place) (id : ℕ) (found : TypeId (entry m.type) w T id) where
+      pub matched : v.ty ≡ id → (k : ℕ) → k ≡ i + 1 → Matching w T b n all ms k
+      matched h k ek =
+          let p : place + 2 ≡ 4 + 2 * k = omega arith in
+          record {
+            count = omega (arith, g.count, ap length e);
+            same = λ S s held.
+                member_turn S s held ∙ rw (eq-eqb (value_at s (u16_at b place)).type (or_else 0 (id_of s (entry m.type))) (sym (type_read_lem c (u16_at b place) w T v read ec S s held) ∙ h ∙ found S s held))
+                (ap (λ (q : ℕ). members_fit s (member_types ms) (u16s_at b q (length ms))) p);
+          }
+
+      pub other_member : (v.ty ≡ id → ⊥) → TestsParts (members (member_types all)) (u16s_at b 4 n) w T false
+      other_member h S s held =
+          sym (member_turn S s held ∙ rw (ne_eqb (value_at s (u16_at b place)).type (or_else 0 (id_of s (entry m.type))) (λ z. h (type_read_lem c (u16_at b place) w T v read ec S s held ∙ z ∙ sym (found S s held)))))
+
+  pub all_matched : (i : ℕ) (ms : List Member) → ms ≡ [] → Matching w T b n all ms i → TestsParts (members (member_types all)) (u16s_at b 4 n) w T true
+  unfolding member_types u16s_at members_fit
+  all_matched i ms e g S s h = sym (g.same S s h ∙ ap (λ (l : List Member). members_fit s (member_types l) (u16s_at b (4 + 2 * i) (length l))) e)
 
 -- ---- the places that a type of tag t and body d gives, whose name ends at p
 
@@ -125,5 +147,5 @@ module _ (t : ℕ) (d : List ℕ) (p : ℕ) where
 -- ---- a Splat's value has a kind
 
 pub kind_there : (kind : ℕ) (o : Option Kind) → kind ≡ kind_code o → not (eqb kind 0) ≡ present o
-kind_there kind none e = rw (eq-eqb kind 0 e)
-kind_there kind (some k) e = rw (ne_eqb kind 0 (λ z. omega arith))
+kind_there kind None e = rw (eq-eqb kind 0 e)
+kind_there kind (Some k) e = rw (ne_eqb kind 0 (λ z. omega arith))

@@ -1,6 +1,6 @@
 -- What entering a constant of the sheet promises, and what it costs.
 use Rattle.std.specs.Prelude.{ℕ, ◌+◌, ◌<◌, ◌≡◌, List, length}
-use Rattle.std.proofs.Math.Option.{Option}
+use Rattle.std.specs.Prelude.{Option}
 use Rattle.definition.specs.Choice.{or_else}
 use Rattle.definition.specs.Shapes.{Kind, Key, bool, vector, entry, shape}
 use Rattle.definition.specs.State.{State, Got, id_of}

@@ -16,18 +16,16 @@ ghost use Rattle.writer_constants.specs.Entered.{composite_cost};
 
 use finding::get_type_id;
 use lookup::LookupType;
-use writer::{Sought, Taken, Writer};
+use writer::{Taken, Writer};
 
 // The parts of a Compose: the ids of the n constants that its body names.
 pub fn stage_parts(tables: &mut [u64], w: Writer, body: &[u8], n: usize)
     requires { (n < 65536) × RoomIn (staging n) w tables.old }
     ensures { Staged n (λ (s : State). ids_of s (u16s_at body.now 4 n)) w tables.old tables.new }
 {
-    let mut i = 0;
-    while i < n {
+    for i in 0..n {
         let v = writer::value_at(tables, w, fields::u16_at(body, 4 + 2 * i) as usize);
         writer::stage_part(tables, w, i, v.id);
-        i += 1;
     }
 }
 
@@ -36,10 +34,8 @@ pub fn stage_splat(tables: &mut [u64], w: Writer, id: u64, n: usize)
     requires { RoomIn (staging n) w tables.old }
     ensures { Staged n (λ (s : State). replicate n id) w tables.old tables.new }
 {
-    let mut k = 0;
-    while k < n {
-        writer::stage_part(tables, w, k, id);
-        k += 1;
+    for i in 0..n {
+        writer::stage_part(tables, w, i, id);
     }
 }
 
@@ -57,8 +53,8 @@ pub fn get_constant_composite(
 {
     let k = lookup::key(ty);
     match writer::find_composite(tables, w, k, n) {
-        Sought::Id(id) => Taken { id, writer: w },
-        Sought::Absent => {
+        Some(id) => Taken { id, writer: w },
+        None => {
             let m = writer::take_id(w);
             let id = m.id;
             let f = get_type_id(tables, sections, m.writer, ty);

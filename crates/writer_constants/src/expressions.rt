@@ -1,13 +1,12 @@
 // The five expressions of the sheet, each entered as a constant: its id, its type's id, and its kind where a Splat may
 // repeat it.
 ghost use Rattle.std.specs.Prelude.{◌≡◌, ◌<◌, ◌≤◌, length};
-ghost use Rattle.std.proofs.Math.Option.{some};
+ghost use Rattle.std.specs.Prelude.{Some};
 ghost use Rattle.definition.specs.Bytes.{name_end};
 ghost use Rattle.definition.specs.Sheet.{type_fields};
-ghost use Rattle.definition.specs.Shapes.{kind_of, vector, shape};
+ghost use Rattle.definition.specs.Shapes.{kind_of};
 ghost use Rattle.definition.specs.Finding.{literal_kind};
 ghost use Rattle.definition.specs.Rules.{inner_at, kind_of_scalar};
-ghost use Rattle.kinds.specs.Numbers.{kind_number};
 ghost use Rattle.literals.specs.Forms.{literal_of};
 ghost use Rattle.lookup.specs.Local.{key_of};
 ghost use Rattle.records.specs.Places.{types_from};
@@ -21,7 +20,7 @@ use entries::constants::Expression;
 use finding::{get_constant_null, get_constant_scalar, literal_type, type_id};
 use kinds::ScalarKind;
 use literals::Literal;
-use lookup::{LocalType, LookupType, PointerSpace, VectorSize};
+use lookup::{LookupType, value_type};
 use writer::{Taken, Writer};
 
 // Enters a constant of a type, once both are found.
@@ -38,7 +37,7 @@ fn enter_found(tables: &mut [u64], g: Taken, t: LookupType, kind: u64) -> Writer
 
 // Of a kind's number and a width in bytes.
 fn kind_code(k: u8, width: u8) -> u64
-    ensures { (result ≡ kind_code (some (kind_of k width))) × (result < 1025) }
+    ensures { (result ≡ kind_code (Some (kind_of k width))) × (result < 1025) }
 {
     match k {
         0 => 1 + 4 * (width as u64),
@@ -49,7 +48,7 @@ fn kind_code(k: u8, width: u8) -> u64
 }
 
 fn literal_code(l: Literal) -> u64
-    ensures { result ≡ kind_code (some (literal_kind (literal_of l))) }
+    ensures { result ≡ kind_code (Some (literal_kind (literal_of l))) }
 {
     match l {
         Literal::F64(_) => kind_code(2, 8),
@@ -98,26 +97,15 @@ fn scalar_kind(s: &[u8], types: &[u32], n: usize, t: u16) -> u64
     kind_in(records::tag_of(rest), records::body_of(rest))
 }
 
-pub fn vector_type(size: u8, kind: ScalarKind, width: u8) -> LookupType
-    ensures { key_of result ≡ shape (vector size (kind_of (kind_number kind) width)) }
-{
-    LookupType::Local(LocalType::Value {
-        vector_size: VectorSize::Of(size),
-        kind,
-        width,
-        pointer_space: PointerSpace::Nothing,
-    })
-}
-
 // The vector type of a Splat of a constant of this kind; of a code that no kind has it is some vector type.
 fn splat_type(size: u8, kind: u64) -> LookupType
     ensures { SplatType size kind (key_of result) }
 {
     if kind == 0 {
-        return vector_type(size, ScalarKind::Bool, 0);
+        return value_type(Some(size), ScalarKind::Bool, 0);
     }
     let k = kinds::kind_of(((kind - 1) % 4) as u8);
-    vector_type(size, k, ((kind - 1) / 4 % 256) as u8)
+    value_type(Some(size), k, ((kind - 1) / 4 % 256) as u8)
 }
 
 // Writes the constant e, the parts of which stand in its record's body b; the sheet's first n types stand at these places.

@@ -1,13 +1,14 @@
 // Test 13 of a constant: whether it fits the constants and the types before it.
-ghost use Rattle.std.specs.Prelude.{◌≡◌, true, ℕ, ◌+◌, ◌<◌, ◌≤◌, length};
-ghost use Rattle.definition.specs.Bytes.{u8_at, name_end};
+ghost use Rattle.std.specs.Prelude.{◌≡◌, true, ℕ, ◌<◌, ◌≤◌, length};
+ghost use Rattle.definition.specs.Bytes.{name_end};
 ghost use Rattle.definition.specs.Shapes.{kind_of};
-ghost use Rattle.definition.specs.Sheet.{u16s_at, members_at, type_fields};
+ghost use Rattle.definition.specs.Sheet.{u16s_at, type_fields};
 ghost use Rattle.definition.specs.Tests.{member_types, expression_types, below};
 ghost use Rattle.definition.specs.Rules.{inner_at};
 ghost use Rattle.definition.specs.Unfit.{part_places_of, each, members};
 ghost use Rattle.kinds.specs.Numbers.{kind_number};
 ghost use Rattle.lookup.specs.Local.{key_of};
+ghost use Rattle.members.specs.Walk.{members_left};
 ghost use Rattle.records.specs.Places.{types_from};
 ghost use Rattle.entries.specs.Constants.{expression_of};
 ghost use Rattle.zeroable.specs.Memo.{Memo};
@@ -15,11 +16,11 @@ ghost use Rattle.writer.specs.Cost.{no_cost};
 ghost use Rattle.writer.specs.Held.{RoomIn};
 ghost use Rattle.writer_constants.specs.Fitting.{TestsEachPart, TestsParts, TestsConstant};
 
-use crate::expressions::vector_type;
 use entries::constants::Expression;
 use finding::type_id;
 use kinds::ScalarKind;
-use lookup::{LocalType, LookupType, PointerSpace, VectorSize};
+use lookup::{LookupType, value_type};
+use members::Members;
 use writer::Writer;
 
 // The kind of a number; one that test 10 refuses is taken for a Bool's, as the definition takes it.
@@ -37,15 +38,11 @@ fn all_of_type(tables: &[u64], w: Writer, b: &[u8], n: usize, id: u64) -> bool
     requires { (n < 65536) × RoomIn no_cost w tables.now }
     ensures { TestsEachPart id (u16s_at b.now 4 n) w tables.now result }
 {
-    let mut i = 0;
-    let mut p = 4;
-    while i < n {
-        let v = writer::value_at(tables, w, fields::u16_at(b, p) as usize);
+    for i in 0..n {
+        let v = writer::value_at(tables, w, fields::u16_at(b, 4 + 2 * i) as usize);
         if v.ty != id {
             return false;
         }
-        i += 1;
-        p += 2;
     }
     true
 }
@@ -62,30 +59,22 @@ fn each_fits(tables: &[u64], w: Writer, b: &[u8], n: u16, size: u32, t: LookupTy
     all_of_type(tables, w, b, n as usize, id)
 }
 
-// Whether each is of the type of the struct's member in its place; the struct's body is d, in which its name ends at `from`.
-fn members_fit(tables: &[u64], w: Writer, b: &[u8], n: usize, d: &[u8], from: usize) -> bool
-    requires { (n < 65536) × ((from < 300) × RoomIn no_cost w tables.now) }
-    ensures { TestsParts (members (member_types (members_at d.now (from + 5) (u8_at d.now (from + 4))))) (u16s_at b.now 4 n) w tables.now result }
+// Whether there is one for each of the members wanted, of the member's type.
+fn members_fit(tables: &[u64], w: Writer, b: &[u8], n: u16, wanted: Members<'_>) -> bool
+    requires { RoomIn no_cost w tables.now }
+    ensures { TestsParts (members (member_types (members_left wanted.entry))) (u16s_at b.now 4 n) w tables.now result }
 {
-    let mut p = from + 5;
-    let mut k = fields::u8_at(d, from + 4);
-    let mut i = 0;
-    let mut q = 4;
-    while 0 < k {
-        if n <= i {
-            return false;
-        }
-        let v = writer::value_at(tables, w, fields::u16_at(b, q) as usize);
-        let id = type_id(tables, w, LookupType::Handle(fields::u16_at(d, p)));
+    if n as usize != wanted.len() {
+        return false;
+    }
+    for (i, m) in wanted.enumerate() {
+        let v = writer::value_at(tables, w, fields::u16_at(b, 4 + 2 * i) as usize);
+        let id = type_id(tables, w, LookupType::Handle(m.ty));
         if v.ty != id {
             return false;
         }
-        p = fields::name_end(d, p + 6);
-        k -= 1;
-        i += 1;
-        q += 2;
     }
-    n <= i
+    true
 }
 
 // Whether they have the places that a type of a tag and of body d gives: a vector, a matrix, a sized Array or a struct.
@@ -98,17 +87,12 @@ fn places_fit(tables: &[u64], w: Writer, tag: u8, d: &[u8], b: &[u8], n: u16) ->
         17 => {
             let kind = kind_for(fields::u8_at(d, p + 1));
             let width = fields::u8_at(d, p + 2);
-            let l = LookupType::Local(LocalType::Value {
-                vector_size: VectorSize::Nothing,
-                kind,
-                width,
-                pointer_space: PointerSpace::Nothing,
-            });
+            let l = value_type(None, kind, width);
             each_fits(tables, w, b, n, fields::u8_at(d, p) as u32, l)
         }
         18 => {
             let rows = fields::u8_at(d, p + 1);
-            let l = vector_type(rows, ScalarKind::Float, fields::u8_at(d, p + 2));
+            let l = value_type(Some(rows), ScalarKind::Float, fields::u8_at(d, p + 2));
             each_fits(tables, w, b, n, fields::u8_at(d, p) as u32, l)
         }
         22 => {
@@ -125,7 +109,7 @@ fn places_fit(tables: &[u64], w: Writer, tag: u8, d: &[u8], b: &[u8], n: u16) ->
                 LookupType::Handle(fields::u16_at(d, p)),
             )
         }
-        23 => members_fit(tables, w, b, n as usize, d, p),
+        23 => members_fit(tables, w, b, n, Members::behind(d, p)),
         _ => false,
     }
 }

@@ -4,7 +4,7 @@
 use Prim.Native.Nat.{ℕ, suc, ◌+◌}
 use mathlib.Core.Path.{◌≡◌, sym, ap, ◌∙◌, subst}
 use mathlib.Core.List.{List, ◌∷◌}
-use mathlib.Core.Option.{Option}
+use Rattle.std.specs.Prelude.{Option, Some, None}
 use native.Mathlib.Omega.{arith}
 use Rattle.definition.specs.Bytes.{u8_at, u16_at}
 use Rattle.definition.specs.Instructions.{Instruction, type_function}
@@ -13,9 +13,7 @@ use Rattle.definition.specs.State.{Composite, function, State, Got, take_id, dec
 use Rattle.definition.specs.Rules.{or_new_type, shared_type, result_of, declare_function}
 use Rattle.writer.specs.declared.Writer.{Writer}
 use Rattle.writer.specs.declared.Taken.{Taken}
-use Rattle.writer.specs.declared.Sought.{Sought}
-use Rattle.writer.specs.declared.Sought.TheVariants.{Id, Absent}
-use Rattle.writer.specs.Rows.{part, sought_of}
+use Rattle.writer.specs.Rows.{part}
 use Rattle.writer.specs.Regions.{declarations, parts_at}
 use Rattle.writer.specs.Cost.{Cost, an_id, a_composite, declaring, ◌⊕◌}
 use Rattle.writer.specs.Held.{SmallComposite, composite_key, parts_of_c, Held}
@@ -25,20 +23,20 @@ use Rattle.finding.proofs.Ways.{taken}
 use Rattle.writer_functions.specs.Written.{void_cost, signature_cost, function_cost, FunctionWritten}
 
 module _ (x : Composite) (small : SmallComposite x) (write : ℕ → Instruction) (key n : ℕ) (ek : key ≡ composite_key x) (w : Writer) (T S : List ℕ) (ep : part T (parts_at w + w.parts) n ≡ parts_of_c x)
-    (r : Sought) (er : FindsComposite key n w T r) where
-  sought : (o : Sought) → r ≡ o → (s : State) → Held w T S s → shared_type x write s ≡ or_new_type (sought_of o) x write s
+    (r : Option ℕ) (er : FindsComposite key n w T r) where
+  sought : (o : Option ℕ) → r ≡ o → (s : State) → Held w T S s → shared_type x write s ≡ or_new_type o x write s
   unfolding shared_type
-  sought o e s h = ap (λ (p : Option ℕ). or_new_type p x write s) (sym (er x small ek ep S s h) ∙ ap sought_of e)
+  sought o e s h = ap (λ (p : Option ℕ). or_new_type p x write s) (sym (er x small ek ep S s h) ∙ e)
 
-  pub shared_old : (c : Cost) (id : ℕ) → r ≡ Id id → FoundBy c (shared_type x write) w T S (taken id w) T S
+  pub shared_old : (c : Cost) (id : ℕ) → r ≡ Some id → FoundBy c (shared_type x write) w T S (taken id w) T S
   shared_old c id e = record {
     grown = omega arith;
     gives = λ s h.
-        let o = sought (Id id) e s h in
+        let o = sought (Some id) e s h in
         record { named = sym (ap (λ (g : Got). g.id) o); held = subst (λ (g : Got). Held w T S g.state) (sym o) h };
   }
 
-  pub shared_new : r ≡ Absent → (m : Taken) → Took w m → (k : ℕ) (v : Writer) (S₂ : List ℕ) → Puts declarations k (write m.id) m.writer S v S₂
+  pub shared_new : r ≡ None → (m : Taken) → Took w m → (k : ℕ) (v : Writer) (S₂ : List ℕ) → Puts declarations k (write m.id) m.writer S v S₂
       → (u : Writer) (T₂ : List ℕ) → EnteredComposite key n m.id v T u T₂ → FoundBy (an_id ⊕ declaring k ⊕ a_composite n) (shared_type x write) w T S (taken m.id u) T₂ S₂
   shared_new e m p k v S₂ d u T₂ y =
       let ev : parts_at v + v.parts ≡ parts_at w + w.parts = omega (arith, p.grown, d.grown) in
@@ -47,7 +45,7 @@ module _ (x : Composite) (small : SmallComposite x) (write : ℕ → Instruction
         grown = omega (arith, p.grown, d.grown, y.grown);
         gives = λ s h.
             let ej : m.id ≡ suc s.last = p.named ∙ ap suc h.last in
-            let o = sought Absent e s h in
+            let o = sought None e s h in
             let b = d.held T (take_id s) (p.held T S s h) in
             let z = y.held x small ek there S₂ (declare_alone (write m.id) (take_id s)) b in
             record {

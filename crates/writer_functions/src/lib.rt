@@ -20,7 +20,7 @@ ghost use Rattle.writer_functions.specs.Written.{void_cost, signature_cost, func
 use finding::type_id;
 use lookup::LookupType;
 use writer::sections::type_void;
-use writer::{Sought, Taken, Writer};
+use writer::{Taken, Writer};
 
 // Keys of the table of composites. The last digit of a type's key, to base 16, is 12 at most.
 const FUNCTION_KEY: u64 = 13;
@@ -36,8 +36,8 @@ fn get_void_type(tables: &mut [u64], sections: &mut [u32], w: Writer) -> Taken
     ensures { FoundBy void_cost (shared_type void type_void) w tables.old sections.old result tables.new sections.new }
 {
     match writer::find_composite(tables, w, VOID_KEY, 0) {
-        Sought::Id(id) => Taken { id, writer: w },
-        Sought::Absent => {
+        Some(id) => Taken { id, writer: w },
+        None => {
             let m = writer::take_id(w);
             let id = m.id;
             let v = type_void(sections, m.writer, id);
@@ -66,12 +66,10 @@ fn stage_signature(tables: &mut [u64], w: Writer, body: &[u8], res: u64, n: usiz
     ensures { Staged (n + 1) (λ (s : State). res ∷ entry_ids s (u16s_at body.now 3 n)) w tables.old tables.new }
 {
     writer::stage_part(tables, w, 0, res);
-    let mut i = 0;
-    while i < n {
+    for i in 0..n {
         let ty = fields::u16_at(body, 3 + 2 * i);
         let id = type_id(tables, w, LookupType::Handle(ty));
-        i += 1;
-        writer::stage_part(tables, w, i, id);
+        writer::stage_part(tables, w, i + 1, id);
     }
 }
 
@@ -81,8 +79,8 @@ fn get_function_type(tables: &mut [u64], sections: &mut [u32], w: Writer, n: usi
     ensures { FoundBy (signature_cost n) (shared_type (function (part tables.old (parts_at w + w.parts) n)) (λ i. type_function i (part tables.old (parts_at w + w.parts) n))) w tables.old sections.old result tables.new sections.new }
 {
     match writer::find_composite(tables, w, FUNCTION_KEY, n) {
-        Sought::Id(id) => Taken { id, writer: w },
-        Sought::Absent => {
+        Some(id) => Taken { id, writer: w },
+        None => {
             let m = writer::take_id(w);
             let id = m.id;
             let v = writer::declare_function(tables, sections, m.writer, id, n);

@@ -3,7 +3,7 @@ use Prim.Native.Nat.{ℕ}
 use mathlib.Core.Path.{◌≡◌, sym, ap, ◌∙◌}
 use mathlib.Core.Bool.{Bool, true, false, ◌&&◌, ◌||◌, not}
 use mathlib.Core.List.{List, [], ◌∷◌}
-use mathlib.Core.Option.{Option, some, none}
+use Rattle.std.specs.Prelude.{Option, Some, None}
 use lib.Dec.{eqb}
 use Rattle.definition.specs.Choice.{among, or_else}
 use Rattle.definition.specs.Sheet.{TypeEntry, Global}
@@ -16,10 +16,10 @@ use Rattle.definition.specs.Unfit.{is_pointer, init_fits, of_type, global_fits}
 -- ---- the init
 
 module _ (s : State) (g : Global) {space ty : ℕ} (es : g.space ≡ space) (et : g.type ≡ ty) (o : Option ℕ) where
-  pub no_init : o ≡ none → true ≡ init_fits s g o
+  pub no_init : o ≡ None → true ≡ init_fits s g o
   no_init e = sym (ap (init_fits s g) e)
 
-  module _ {c : ℕ} (e : o ≡ some c) where
+  module _ {c : ℕ} (e : o ≡ Some c) where
     by_place : (b : Bool) → eqb g.space 1 ≡ b → init_fits s g o ≡ (b && of_type s (entry g.type) c)
     by_place b q = ap (init_fits s g) e ∙ ap (λ (b : Bool). b && of_type s (entry g.type) c) q
 

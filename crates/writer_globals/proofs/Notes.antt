@@ -4,7 +4,7 @@ use Prim.Native.Nat.{ℕ, ◌+◌, ◌≤◌, ◌/◌, ◌%◌}
 use mathlib.Core.Path.{◌≡◌, sym, ap, ◌∙◌, subst}
 use mathlib.Core.Bool.{Bool, true, false}
 use mathlib.Core.List.{List, [], ◌∷◌}
-use mathlib.Core.Option.{Option, some, none}
+use Rattle.std.specs.Prelude.{Option, Some, None}
 use native.Mathlib.Omega.{arith}
 use borrow.Author.Tests.{eq-eqb, ne_eqb}
 use lib.Dec.{eqb}
@@ -22,8 +22,6 @@ use Rattle.kinds.specs.Numbers.{space_number, space_access}
 use Rattle.kinds.specs.declared.AddressSpace.{AddressSpace}
 use Rattle.kinds.specs.declared.AddressSpace.TheVariants.{Storage}
 use Rattle.entries.specs.Globals.{global_of}
-use Rattle.entries.specs.declared.globals.Binding.{Binding}
-use Rattle.entries.specs.declared.globals.Binding.TheVariants.{Bound}
 use Rattle.entries.specs.declared.globals.ResourceBinding.{ResourceBinding}
 use Rattle.entries.specs.declared.globals.GlobalVariable.{GlobalVariable}
 use Rattle.writer.specs.declared.Writer.{Writer}
@@ -63,25 +61,25 @@ if_there id d b e p = added_as (λ s. ap (λ (q : Bool). annotate_if q (decorate
 -- ---- load and store
 
 module _ (ts : List TypeEntry) (g : GlobalVariable) (b : List ℕ) where
-  by_space : (c : Bool) → eqb (space_number g.space) 4 ≡ c → access_of ts (global_of b g) ≡ pick c (some (space_access g.space)) (image_access (inner_at ts g.ty))
-  by_space c e = ap (λ (c : Bool). pick c (some (space_access g.space)) (image_access (inner_at ts g.ty))) e
+  by_space : (c : Bool) → eqb (space_number g.space) 4 ≡ c → access_of ts (global_of b g) ≡ pick c (Some (space_access g.space)) (image_access (inner_at ts g.ty))
+  by_space c e = ap (λ (c : Bool). pick c (Some (space_access g.space)) (image_access (inner_at ts g.ty))) e
 
-  pub storage_access : {a : ℕ} → g.space ≡ Storage a → some a ≡ access_of ts (global_of b g)
-  storage_access e = sym (by_space true (ap (λ (s : AddressSpace). eqb (space_number s) 4) e) ∙ ap (λ (s : AddressSpace). some (space_access s)) e)
+  pub storage_access : {a : ℕ} → g.space ≡ Storage a → Some a ≡ access_of ts (global_of b g)
+  storage_access e = sym (by_space true (ap (λ (s : AddressSpace). eqb (space_number s) 4) e) ∙ ap (λ (s : AddressSpace). Some (space_access s)) e)
 
   pub other_access : eqb (space_number g.space) 4 ≡ false → {o : Option ℕ} → o ≡ image_access (inner_at ts g.ty) → o ≡ access_of ts (global_of b g)
   other_access n e = e ∙ sym (by_space false n)
 
 pub both_ways : (id x : ℕ) {w v u : Writer} {S S₁ S₂ : List ℕ} → Added (annotating 3) (annotate_if (eqb (x % 2) 0) (decorate id 25 [])) w S v S₁
-    → Added (annotating 3) (annotate_if (eqb (x / 2 % 2) 0) (decorate id 24 [])) v S₁ u S₂ → (o : Option ℕ) → o ≡ some x → Added (annotating 6) (decorate_access o id) w S u S₂
+    → Added (annotating 3) (annotate_if (eqb (x / 2 % 2) 0) (decorate id 24 [])) v S₁ u S₂ → (o : Option ℕ) → o ≡ Some x → Added (annotating 6) (decorate_access o id) w S u S₂
 both_ways id x p q o e = added_as (λ s. ap (λ (o : Option ℕ). decorate_access o id s) (sym e)) (added_then p q)
 
 -- ---- the binding
 
 pub bound : (id : ℕ) (r : ResourceBinding) {w v u : Writer} {S S₁ S₂ : List ℕ}
     → Puts annotations 4 (decorate id DecorationDescriptorSet (r.group ∷ [])) w S v S₁ → Puts annotations 4 (decorate id DecorationBinding (r.binding ∷ [])) v S₁ u S₂
-    → (b : Binding) → b ≡ Bound r → Added (annotating 8) (binding_decorated b id) w S u S₂
-bound id r p q b e = added_as (λ s. ap (λ (b : Binding). binding_decorated b id s) (sym e)) (added_then (put_one p) (put_one q))
+    → (b : Option ResourceBinding) → b ≡ Some r → Added (annotating 8) (binding_decorated b id) w S u S₂
+bound id r p q b e = added_as (λ s. ap (λ (b : Option ResourceBinding). binding_decorated b id s) (sym e)) (added_then (put_one p) (put_one q))
 
 -- ---- the name
 
@@ -93,7 +91,7 @@ module _ (debug : Bool) (id : ℕ) (b : List ℕ) where
     pub nameless : k ≡ 255 → (s : State) → label_if debug (name id) (name_at b 0) s ≡ s
     unfolding name_at
     nameless z s =
-        let n : name_at b 0 ≡ none = rw (eq-eqb (u8_at b 0) 255 (sym ek ∙ z)) in
+        let n : name_at b 0 ≡ None = rw (eq-eqb (u8_at b 0) 255 (sym ek ∙ z)) in
         λ j. label_if (e j) (name id) (n j) s
 
     module _ (nz : k ≡ 255 → ⊥) {bs : List ℕ} (eb : bs ≡ take k (drop 1 b)) where
@@ -112,7 +110,7 @@ module _ (debug : Bool) (id : ℕ) (b : List ℕ) where
       pub labelled : {w v : Writer} {S S₁ : List ℕ} → Puts names (length bs + 3) (name id bs) w S v S₁ → Added (naming (name_end b 0 + 2)) (label_if debug (name id) (name_at b 0)) w S v S₁
       unfolding name_at
       labelled {v = v} {S₁ = S₁} p =
-          let n : name_at b 0 ≡ some bs = rw (ne_eqb (u8_at b 0) 255 is_number) (ap some (sym (eb ∙ ap (λ (i : ℕ). take i (drop 1 b)) ek))) in
+          let n : name_at b 0 ≡ Some bs = rw (ne_eqb (u8_at b 0) 255 is_number) (ap Some (sym (eb ∙ ap (λ (i : ℕ). take i (drop 1 b)) ek))) in
           record {
             grown = omega (arith, p.grown, short);
             held = λ T s h. subst (Held v T S₁) (sym (λ j. label_if (e j) (name id) (n j) s)) (p.held T s h);
@@ -125,10 +123,10 @@ module _ (storage : Bool) (o : Option ℕ) where
   not_there e s = ap (λ (q : Bool). block_base q o s) e
 
   module _ (e : storage ≡ true) where
-    pub no_base : o ≡ none → (s : State) → block_base storage o s ≡ s
+    pub no_base : o ≡ None → (s : State) → block_base storage o s ≡ s
     no_base z s = λ j. block_base (e j) (z j) s
 
-    pub on_base : {b : ℕ} → o ≡ some b → {w v : Writer} {T S T₁ S₁ T₂ S₂ : List ℕ} {f : Taken} → GotBy no_cost (find (entry b)) w T S f T₁ S₁
+    pub on_base : {b : ℕ} → o ≡ Some b → {w v : Writer} {T S T₁ S₁ T₂ S₂ : List ℕ} {f : Taken} → GotBy no_cost (find (entry b)) w T S f T₁ S₁
         → Kept a_block (block_once f.id) f.writer T₁ S₁ v T₂ S₂ → Kept a_block (block_base storage o) w T S v T₂ S₂
     on_base {b = b} z {v = v} {T₂ = T₂} {S₂ = S₂} p q =
         record {

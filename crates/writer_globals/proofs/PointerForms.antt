@@ -1,11 +1,12 @@
 -- The wrapper, and the form of a global's pointer: that what was read is the definition's form, and that what is written by
 -- it is the definition's pointer. The definition finds a remap by the fields of a binding, the program by the binding; the
 -- two meet in `size_for`.
+use Rattle.entries.specs.declared.globals.ResourceBinding.{ResourceBinding}
 use Prim.Native.Nat.{ℕ, suc, ◌<◌}
 use mathlib.Core.Path.{◌≡◌, refl, sym, ap, ◌∙◌, subst}
 use mathlib.Core.Bool.{Bool, true, false}
 use mathlib.Core.List.{List, [], ◌∷◌}
-use mathlib.Core.Option.{Option, some, none}
+use Rattle.std.specs.Prelude.{Option, Some, None}
 use native.Mathlib.Omega.{arith}
 use lib.Dec.{eqb}
 use lib.ListN.{length}
@@ -20,11 +21,7 @@ use Rattle.definition.specs.Rules.{block, stride_member, inner_at, matrix_stride
 use Rattle.definition.proofs.Truth.{pick_for}
 use Rattle.kinds.specs.Numbers.{space_number}
 use Rattle.entries.specs.Globals.{global_of, bound_number, group_number, binding_number}
-use Rattle.entries.specs.declared.globals.Binding.{Binding}
-use Rattle.entries.specs.declared.globals.Binding.TheVariants.{Unbound, Bound}
 use Rattle.entries.specs.declared.globals.GlobalVariable.{GlobalVariable}
-use Rattle.type_facts.specs.declared.Number.{Number}
-use Rattle.type_facts.specs.Facets.{number_of}
 use Rattle.writer.specs.declared.Writer.{Writer}
 use Rattle.writer.specs.declared.Taken.{Taken}
 use Rattle.writer.specs.Regions.{declarations}
@@ -112,22 +109,22 @@ module _ (u : PointerForm) (g : GlobalVariable) {class : ℕ} (ec : class ≡ st
   pub by_direct : u ≡ Direct → find (shape (pointer g.ty class)) s ≡ pointer_by u g s
   by_direct e = ap (λ (c : ℕ). find (shape (pointer g.ty c)) s) ec ∙ sym (ap (λ (x : PointerForm). pointer_by x g s) e)
 
-  pub by_wrapper : {d : Number} → u ≡ Wrapped d → wrap_in (number_of d) g.ty class s ≡ pointer_by u g s
-  by_wrapper {d = d} e = ap (λ (c : ℕ). wrap_in (number_of d) g.ty c s) ec ∙ sym (ap (λ (x : PointerForm). pointer_by x g s) e)
+  pub by_wrapper : {d : Option ℕ} → u ≡ Wrapped d → wrap_in d g.ty class s ≡ pointer_by u g s
+  by_wrapper {d = d} e = ap (λ (c : ℕ). wrap_in d g.ty c s) ec ∙ sym (ap (λ (x : PointerForm). pointer_by x g s) e)
 
 -- ---- the form
 
 -- the form of the pointer of a global that is not wrapped, by its binding
-unwrapped : (rs : List Remap) (o : Option ℕ) (x : Binding) → pick (eqb (bound_number x) 1) (remapped_form o (remap_of rs (group_number x) (binding_number x))) direct ≡ remapped_form o (size_for rs x)
-unwrapped rs none Unbound = refl
-unwrapped rs (some b) Unbound = refl
-unwrapped rs o (Bound r) = refl
+unwrapped : (rs : List Remap) (o : Option ℕ) (x : Option ResourceBinding) → pick (eqb (bound_number x) 1) (remapped_form o (remap_of rs (group_number x) (binding_number x))) direct ≡ remapped_form o (size_for rs x)
+unwrapped rs None None = refl
+unwrapped rs (Some b) None = refl
+unwrapped rs o (Some r) = refl
 
 module _ (ts : List TypeEntry) (rs : List Remap) (g : GlobalVariable) (b : List ℕ) (x : State) where
   abbrev gl : Global
   gl = global_of b g
 
-  pub is_wrapped : needs_wrapper ts gl ≡ true → (d : Number) → number_of d ≡ matrix_stride (element_of ts (inner_at ts g.ty)) → pointer_by (Wrapped d) g x ≡ pointer_of (pointer_form_in ts rs gl) ts gl x
+  pub is_wrapped : needs_wrapper ts gl ≡ true → (d : Option ℕ) → d ≡ matrix_stride (element_of ts (inner_at ts g.ty)) → pointer_by (Wrapped d) g x ≡ pointer_of (pointer_form_in ts rs gl) ts gl x
   is_wrapped e d q =
       ap (λ (o : Option ℕ). wrap_in o g.ty (storage_class (space_number g.space)) x) q
       ∙ sym (ap (λ (c : Bool). pointer_of (pick c in_wrapper (pick (is_bound gl) (remapped_form (binding_base (inner_at ts g.ty)) (remap_of rs gl.group gl.binding)) direct)) ts gl x) e)
@@ -138,12 +135,12 @@ module _ (ts : List TypeEntry) (rs : List Remap) (g : GlobalVariable) (b : List 
         let u = unwrapped rs (binding_base (inner_at ts g.ty)) g.binding in
         (λ j. pointer_of (pick (e j) in_wrapper (u j)) ts gl x) ∙ (λ j. pointer_of (remapped_form (eo j) (en j)) ts gl x)
 
-    pub no_array : none ≡ binding_base (inner_at ts g.ty) → pointer_by Direct g x ≡ pointer_of (pointer_form_in ts rs gl) ts gl x
-    no_array eo = sym (other none (size_for rs g.binding) (sym eo) refl)
+    pub no_array : None ≡ binding_base (inner_at ts g.ty) → pointer_by Direct g x ≡ pointer_of (pointer_form_in ts rs gl) ts gl x
+    no_array eo = sym (other None (size_for rs g.binding) (sym eo) refl)
 
-    module _ {c : ℕ} (eo : some c ≡ binding_base (inner_at ts g.ty)) where
-      pub not_remapped : none ≡ size_for rs g.binding → pointer_by Direct g x ≡ pointer_of (pointer_form_in ts rs gl) ts gl x
-      not_remapped en = sym (other (some c) none (sym eo) (sym en))
+    module _ {c : ℕ} (eo : Some c ≡ binding_base (inner_at ts g.ty)) where
+      pub not_remapped : None ≡ size_for rs g.binding → pointer_by Direct g x ≡ pointer_of (pointer_form_in ts rs gl) ts gl x
+      not_remapped en = sym (other (Some c) None (sym eo) (sym en))
 
-      pub is_remapped : {n : ℕ} → some n ≡ size_for rs g.binding → pointer_by (Remapped c n) g x ≡ pointer_of (pointer_form_in ts rs gl) ts gl x
-      is_remapped {n = n} en = sym (other (some c) (some n) (sym eo) (sym en))
+      pub is_remapped : {n : ℕ} → Some n ≡ size_for rs g.binding → pointer_by (Remapped c n) g x ≡ pointer_of (pointer_form_in ts rs gl) ts gl x
+      is_remapped {n = n} en = sym (other (Some c) (Some n) (sym eo) (sym en))

@@ -1,10 +1,11 @@
 -- A global from what each call leaves, in the order of the calls: what is left of its room before each, then the whole.
 -- The rule is restated as a function of its parts (`run`), so that each part's equation goes in by itself.
+use Rattle.entries.specs.declared.globals.ResourceBinding.{ResourceBinding}
 use Prim.Native.Nat.{ℕ, suc, ◌+◌}
 use mathlib.Core.Path.{◌≡◌, refl, sym, ap, ◌∙◌, subst, fun_ext}
 use mathlib.Core.Bool.{Bool, ◌&&◌, ◌||◌}
 use mathlib.Core.List.{List}
-use mathlib.Core.Option.{Option}
+use Rattle.std.specs.Prelude.{Option, Some, None}
 use native.Mathlib.Omega.{arith}
 use lib.Dec.{eqb}
 use lib.ListN.{length}
@@ -16,13 +17,10 @@ use Rattle.definition.specs.Tests.{Seen}
 use Rattle.definition.specs.State.{State, Got, take_id, declare_alone}
 use Rattle.definition.specs.Rules.{label_if, inner_at, access_of, decorate_access, decorate_binding, pointer_of, block_base, binding_base, init_for, declare_global}
 use Rattle.kinds.specs.Numbers.{space_number, space_access}
-use Rattle.entries.specs.Globals.{global_of, init_constant, bound_number, group_number, binding_number, GlobalTaken as Read}
-use Rattle.entries.specs.declared.globals.Binding.{Binding}
-use Rattle.entries.specs.declared.globals.Binding.TheVariants.{Unbound, Bound}
+use Rattle.entries.specs.Globals.{global_of, bound_number, group_number, binding_number, GlobalTaken as Read}
 use Rattle.entries.specs.declared.globals.GlobalVariable.{GlobalVariable}
 use Rattle.writer.specs.declared.Writer.{Writer}
 use Rattle.writer.specs.declared.Taken.{Taken}
-use Rattle.spirv.specs.Ids.{initializer_of}
 use Rattle.writer.specs.Regions.{declarations}
 use Rattle.writer.specs.Cost.{an_id, naming, annotating, a_block, declaring, record_cost}
 use Rattle.writer.specs.Held.{Held, Room, RoomFor, Grown}
@@ -62,10 +60,10 @@ module _ (k : ℕ) {w : Writer} {T S : List ℕ} (room : Room (global_cost k) w 
 -- ---- the rule by its parts
 
 -- the binding as the definition writes it
-as_bound : (b : List ℕ) (g : GlobalVariable) (x : Binding) (id : ℕ) (s : State) → binding_decorated x id s
-    ≡ decorate_binding (eqb (bound_number x) 1) (record { name = name_at b 0; type = g.ty; space = space_number g.space; access = space_access g.space; bound = bound_number x; group = group_number x; binding = binding_number x; init = init_constant g.init }) id s
-as_bound b g Unbound id s = refl
-as_bound b g (Bound r) id s = refl
+as_bound : (b : List ℕ) (g : GlobalVariable) (x : Option ResourceBinding) (id : ℕ) (s : State) → binding_decorated x id s
+    ≡ decorate_binding (eqb (bound_number x) 1) (record { name = name_at b 0; type = g.ty; space = space_number g.space; access = space_access g.space; bound = bound_number x; group = group_number x; binding = binding_number x; init = g.init }) id s
+as_bound b g None id s = refl
+as_bound b g (Some r) id s = refl
 
 module _ (o : Options) (b : List ℕ) (g : GlobalVariable) (s : State) where
   -- the rule, by what is read for it and by its id
@@ -73,7 +71,7 @@ module _ (o : Options) (b : List ℕ) (g : GlobalVariable) (s : State) where
   run id access bind point base null class =
       let a = bind id (decorate_access access id (label_if o.debug (name id) (name_at b 0) (take_id s))) in
       let p = point a in
-      let z = init_for (init_constant g.init) null g.ty (block_base (eqb (space_number g.space) 4) base p.state) in
+      let z = init_for g.init null g.ty (block_base (eqb (space_number g.space) 4) base p.state) in
       declare_alone (variable p.id id class z.init) z.state
 
   abbrev gl : Global
@@ -103,9 +101,9 @@ pub declared : (o : Options) (ts : List TypeEntry) (rs : List Remap) (b : List �
     → {base : Option ℕ} → base ≡ binding_base (inner_at ts g.ty)
     → {v₅ : Writer} {T₅ S₅ : List ℕ} → Kept a_block (block_base (eqb (space_number g.space) 4) base) p.writer T₄ S₄ v₅ T₅ S₅
     → {null : Bool} → null ≡ (eqb (space_number g.space) 1 || (eqb (space_number g.space) 2 && o.zeroing))
-    → {z : TakenInit} {T₆ S₆ : List ℕ} → Initialised (init_for (init_constant g.init) null g.ty) v₅ T₅ S₅ z T₆ S₆
+    → {z : TakenInit} {T₆ S₆ : List ℕ} → Initialised (init_for g.init null g.ty) v₅ T₅ S₅ z T₆ S₆
     → {class : ℕ} → class ≡ storage_class (space_number g.space)
-    → {v₇ : Writer} {S₇ : List ℕ} → Puts declarations 5 (variable p.id t.id class (initializer_of z.init)) z.writer S₆ v₇ S₇
+    → {v₇ : Writer} {S₇ : List ℕ} → Puts declarations 5 (variable p.id t.id class z.init) z.writer S₆ v₇ S₇
     → GlobalKept (global_cost (name_end b 0)) o ts rs (global_of b g) w T S v₇ T₆ S₇
 declared o ts rs b g {w = w} {T = T} {S = S} {t = t} p₀ q₁ {a = a} ea q₂ q₃ y ey {p = p} q₄ {base = base} eb q₅ {null = null} en {z = z} {T₆ = T₆} {S₆ = S₆} q₆ {class = class} ec {v₇ = v₇} {S₇ = S₇} q₇ =
     let before = p₀.grown ▹ q₁.grown ▹ q₂.grown ▹ q₃.grown in
@@ -123,7 +121,7 @@ declared o ts rs b g {w = w} {T = T} {S = S} {t = t} p₀ q₁ {a = a} ea q₂ q
           let k = q₄.gives s₃ h₃ in
           let s₅ = block_base (eqb (space_number g.space) 4) base (pointer_by y g s₃).state in
           let i = q₆.gives s₅ (q₅.held (pointer_by y g s₃).state k.held) in
-          let x = init_for (init_constant g.init) null g.ty s₅ in
+          let x = init_for g.init null g.ty s₅ in
           let e₃ = fun_ext (λ (n : ℕ). fun_ext (λ (u : State). as_bound b g g.binding n u)) in
           let e₄ = fun_ext ey in
           subst (Held v₇ T₆ S₇)

@@ -1,6 +1,7 @@
 -- A global's declaration by what was read for it: the definition's rules, with their reading of the types done.
-use Rattle.std.specs.Prelude.{ℕ, suc, ◌≡◌, Bool, ◌&&◌, ◌||◌, List, [], ◌∷◌, eqb}
-use Rattle.std.proofs.Math.Option.{Option, none}
+use Rattle.entries.specs.declared.globals.ResourceBinding.{ResourceBinding}
+use Rattle.std.specs.Prelude.{ℕ, suc, ◌≡◌, Bool, ◌&&◌, ◌||◌, List, [], ◌∷◌, eqb, Some}
+use Rattle.std.specs.Prelude.{Option, None}
 use Rattle.definition.specs.Bytes.{name_end}
 use Rattle.definition.specs.Choice.{pick}
 use Rattle.definition.specs.Numbers.{DecorationOffset, DecorationBinding, DecorationDescriptorSet}
@@ -14,11 +15,7 @@ use Rattle.definition.specs.Rules.{GotInit, block, stride_member, needs_wrapper,
 use Rattle.definition.specs.Rules as Defined
 use Rattle.kinds.specs.Numbers.{space_number, space_access}
 use Rattle.entries.specs.Globals.{global_of}
-use Rattle.entries.specs.declared.globals.Binding.{Binding}
-use Rattle.entries.specs.declared.globals.Binding.TheVariants.{Unbound, Bound}
 use Rattle.entries.specs.declared.globals.GlobalVariable.{GlobalVariable}
-use Rattle.spirv.specs.Ids.{initializer_of}
-use Rattle.type_facts.specs.Facets.{number_of, byte_of, index_of}
 use Rattle.writer.specs.declared.Writer.{Writer}
 use Rattle.writer.specs.Cost.{Cost}
 use Rattle.writer.specs.Held.{Held, Grown}
@@ -43,13 +40,13 @@ wrap_in o t class s =
 -- the pointer of a global, by its form
 abbrev pub pointer_by : PointerForm → GlobalVariable → State → Got
 pointer_by Direct g s = find (shape (pointer g.ty (storage_class (space_number g.space)))) s
-pointer_by (Wrapped d) g s = wrap_in (number_of d) g.ty (storage_class (space_number g.space)) s
+pointer_by (Wrapped d) g s = wrap_in d g.ty (storage_class (space_number g.space)) s
 pointer_by (Remapped b n) g s = find (shape (binding_pointer b n (space_number g.space) (space_access g.space))) s
 
 -- the size to which a binding is remapped
-abbrev pub size_for : List Remap → Binding → Option ℕ
-size_for rs Unbound = none
-size_for rs (Bound r) = remap_of rs r.group r.binding
+abbrev pub size_for : List Remap → Option ResourceBinding → Option ℕ
+size_for rs None = None
+size_for rs (Some r) = remap_of rs r.group r.binding
 
 -- the definition's form, by the types and the remaps alone
 abbrev pub pointer_form_in : List TypeEntry → List Remap → Global → Defined.PointerForm
@@ -60,15 +57,15 @@ pointer_form_in ts rs g =
 -- ---- decorations
 
 -- DescriptorSet and Binding, of a binding that is there
-abbrev pub binding_decorated : Binding → ℕ → State → State
-binding_decorated Unbound id s = s
-binding_decorated (Bound r) id s = annotate (decorate id DecorationBinding (r.binding ∷ [])) (annotate (decorate id DecorationDescriptorSet (r.group ∷ [])) s)
+abbrev pub binding_decorated : Option ResourceBinding → ℕ → State → State
+binding_decorated None id s = s
+binding_decorated (Some r) id s = annotate (decorate id DecorationBinding (r.binding ∷ [])) (annotate (decorate id DecorationDescriptorSet (r.group ∷ [])) s)
 
 -- ---- the init
 
 -- the init, and the state in which it is declared, are held
 pub record InitGiven (g : GotInit) (r : TakenInit) (T S : List ℕ) : Type 0 where
-  pub named : initializer_of r.init ≡ g.init
+  pub named : r.init ≡ g.init
   pub held : Held r.writer T S g.state
 
 -- an init is come by
@@ -81,9 +78,9 @@ pub record Initialised (f : State → GotInit) (w : Writer) (T S : List ℕ) (r 
 
 -- a plan has what the rules read for a global, given the types, the remaps and whether memory is zeroed
 pub record Planned (ts : List TypeEntry) (rs : List Remap) (zeroing : Bool) (b : List ℕ) (g : GlobalVariable) (p : Plan) : Type 0 where
-  pub access : byte_of p.access ≡ access_of ts (global_of b g)
+  pub access : p.access ≡ access_of ts (global_of b g)
   pub form : (x : State) → pointer_by p.form g x ≡ pointer_of (pointer_form_in ts rs (global_of b g)) ts (global_of b g) x
-  pub base : index_of p.base ≡ binding_base (inner_at ts g.ty)
+  pub base : p.base ≡ binding_base (inner_at ts g.ty)
   pub null : p.null ≡ (eqb (space_number g.space) private_space || (eqb (space_number g.space) work_group_space && zeroing))
 
 -- a global is declared, given the types and the remaps, whatever else was read

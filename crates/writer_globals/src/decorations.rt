@@ -8,19 +8,17 @@ ghost use Rattle.definition.specs.Rules.{annotate_if, label_if, access_of, decor
 ghost use Rattle.kinds.specs.Numbers.{space_number};
 ghost use Rattle.records.specs.Places.{types_from};
 ghost use Rattle.entries.specs.Globals.{global_of};
-ghost use Rattle.type_facts.specs.Facets.{byte_of, index_of};
 ghost use Rattle.writer.specs.Cost.{annotating, naming, a_block};
 ghost use Rattle.writer.specs.Held.{RoomFor, Room};
 ghost use Rattle.writer.specs.Steps.{Kept, Added};
 ghost use Rattle.writer_globals.specs.Globals.{binding_decorated};
 
-use entries::globals::{Binding, GlobalVariable};
+use entries::globals::{GlobalVariable, ResourceBinding};
 use kinds::AddressSpace;
 use lookup::LookupType;
 use spirv::instructions::{
     DECORATION_BINDING, DECORATION_DESCRIPTOR_SET, DECORATION_NON_READABLE, DECORATION_NON_WRITABLE,
 };
-use type_facts::{Access, Base};
 use writer::{Writer, sections};
 
 // A decoration without operands, where it is asked for; not Block.
@@ -35,38 +33,43 @@ fn decorate_if(sections: &mut [u32], w: Writer, there: bool, id: u64, decoration
 }
 
 // The access of a global: of its space if that is Storage, else of its type if that is a storage image.
-pub fn access_of(sheet: &[u8], types: &[u32], ntypes: usize, global: GlobalVariable) -> Access
+pub fn access_of(sheet: &[u8], types: &[u32], ntypes: usize, global: GlobalVariable) -> Option<u8>
     requires { ntypes ≤ length types.now }
-    ensures { (b : List ℕ) → byte_of result ≡ access_of (types_from sheet.now types.now ntypes) (global_of b global) }
+    ensures { (b : List ℕ) → result ≡ access_of (types_from sheet.now types.now ntypes) (global_of b global) }
 {
     let space = global.space;
     let AddressSpace::Storage { access } = space else {
         return type_facts::image_access(sheet, types, ntypes, global.ty as usize);
     };
-    Access::Of(access)
+    Some(access)
 }
 
 // Bit 0 of an access is load, bit 1 store.
-pub fn decorate_access(sections: &mut [u32], w: Writer, id: u64, access: Access) -> Writer
+pub fn decorate_access(sections: &mut [u32], w: Writer, id: u64, access: Option<u8>) -> Writer
     requires { RoomFor (annotating 6) w sections.old }
-    ensures { Added (annotating 6) (decorate_access (byte_of access) id) w sections.old result sections.new }
+    ensures { Added (annotating 6) (decorate_access access id) w sections.old result sections.new }
 {
     match access {
-        Access::Nothing => w,
-        Access::Of(x) => {
+        None => w,
+        Some(x) => {
             let v = decorate_if(sections, w, x % 2 == 0, id, DECORATION_NON_READABLE);
             decorate_if(sections, v, x / 2 % 2 == 0, id, DECORATION_NON_WRITABLE)
         }
     }
 }
 
-pub fn decorate_binding(sections: &mut [u32], w: Writer, id: u64, binding: Binding) -> Writer
+pub fn decorate_binding(
+    sections: &mut [u32],
+    w: Writer,
+    id: u64,
+    binding: Option<ResourceBinding>,
+) -> Writer
     requires { RoomFor (annotating 8) w sections.old }
     ensures { Added (annotating 8) (binding_decorated binding id) w sections.old result sections.new }
 {
     match binding {
-        Binding::Unbound => w,
-        Binding::Bound(r) => {
+        None => w,
+        Some(r) => {
             let a = sections::decorate(sections, w, id, DECORATION_DESCRIPTOR_SET, &[r.group]);
             sections::decorate(sections, a, id, DECORATION_BINDING, &[r.binding])
         }
@@ -95,17 +98,17 @@ pub fn block_base(
     sections: &mut [u32],
     w: Writer,
     space: AddressSpace,
-    base: Base,
+    base: Option<u16>,
 ) -> Writer
     requires { Room a_block w tables.old sections.old }
-    ensures { Kept a_block (block_base (eqb (space_number space) storage_space) (index_of base)) w tables.old sections.old result tables.new sections.new }
+    ensures { Kept a_block (block_base (eqb (space_number space) storage_space) base) w tables.old sections.old result tables.new sections.new }
 {
     let AddressSpace::Storage { access: _ } = space else {
         return w;
     };
     match base {
-        Base::Nothing => w,
-        Base::Of(b) => {
+        None => w,
+        Some(b) => {
             let x = finding::type_id(tables, w, LookupType::Handle(b));
             writer::block_once(tables, sections, w, x)
         }

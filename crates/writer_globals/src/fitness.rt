@@ -7,12 +7,12 @@ ghost use Rattle.definition.specs.Unfit.{init_fits};
 ghost use Rattle.kinds.specs.Numbers.{space_number};
 ghost use Rattle.records.specs.Places.{types_from};
 ghost use Rattle.zeroable.specs.Memo.{Memo};
-ghost use Rattle.entries.specs.Globals.{global_of, init_constant, bound_number};
+ghost use Rattle.entries.specs.Globals.{global_of, bound_number};
 ghost use Rattle.writer.specs.Cost.{no_cost};
 ghost use Rattle.writer.specs.Held.{Held, RoomIn};
 ghost use Rattle.writer_globals.specs.Fitness.{TestsGlobal};
 
-use entries::globals::{Binding, GlobalVariable, Init};
+use entries::globals::{GlobalVariable, ResourceBinding};
 use kinds::AddressSpace;
 use lookup::LookupType;
 use writer::Writer;
@@ -21,50 +21,34 @@ use writer::Writer;
 fn may_be_bound(space: AddressSpace) -> bool
     ensures { result ≡ among (space_number space) (uniform_space ∷ storage_space ∷ handle_space ∷ []) }
 {
-    match space {
-        AddressSpace::Function => false,
-        AddressSpace::Private => false,
-        AddressSpace::WorkGroup => false,
-        AddressSpace::Uniform => true,
-        AddressSpace::Storage { access: _ } => true,
-        AddressSpace::Handle => true,
-        AddressSpace::PushConstant => false,
-    }
+    matches!(
+        space,
+        AddressSpace::Uniform | AddressSpace::Storage { access: _ } | AddressSpace::Handle
+    )
 }
 
 // A bound global is Uniform, Storage or Handle.
-fn bound_space_fits(binding: Binding, space: AddressSpace) -> bool
+fn bound_space_fits(binding: Option<ResourceBinding>, space: AddressSpace) -> bool
     ensures { result ≡ (not (eqb (bound_number binding) 1) || among (space_number space) (uniform_space ∷ storage_space ∷ handle_space ∷ [])) }
 {
-    match binding {
-        Binding::Unbound => true,
-        Binding::Bound(_) => may_be_bound(space),
-    }
+    binding.is_none() || may_be_bound(space)
 }
 
 // Whether the type must be zeroable: of a Private or WorkGroup global.
 fn is_zeroed(space: AddressSpace) -> bool
     ensures { result ≡ among (space_number space) (private_space ∷ work_group_space ∷ []) }
 {
-    match space {
-        AddressSpace::Function => false,
-        AddressSpace::Private => true,
-        AddressSpace::WorkGroup => true,
-        AddressSpace::Uniform => false,
-        AddressSpace::Storage { access: _ } => false,
-        AddressSpace::Handle => false,
-        AddressSpace::PushConstant => false,
-    }
+    matches!(space, AddressSpace::Private | AddressSpace::WorkGroup)
 }
 
 // An init is of a Private global, and of its type's id.
-fn init_fits(tables: &[u64], w: Writer, init: Init, space: AddressSpace, ty: u16) -> bool
+fn init_fits(tables: &[u64], w: Writer, init: Option<u16>, space: AddressSpace, ty: u16) -> bool
     requires { RoomIn no_cost w tables.now }
-    ensures { (S : List ℕ) (s : State) → Held w tables.now S s → (g : Global) → g.space ≡ space_number space → g.type ≡ ty → result ≡ init_fits s g (init_constant init) }
+    ensures { (S : List ℕ) (s : State) → Held w tables.now S s → (g : Global) → g.space ≡ space_number space → g.type ≡ ty → result ≡ init_fits s g init }
 {
     match init {
-        Init::Missing => true,
-        Init::Constant(c) => {
+        None => true,
+        Some(c) => {
             let AddressSpace::Private = space else {
                 return false;
             };

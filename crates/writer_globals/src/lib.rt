@@ -13,27 +13,25 @@ ghost use Rattle.definition.specs.Rules.{init_for};
 ghost use Rattle.kinds.specs.Numbers.{space_number};
 ghost use Rattle.records.specs.Flags.{options_from};
 ghost use Rattle.records.specs.Places.{remap_from, types_from};
-ghost use Rattle.entries.specs.Globals.{init_constant, global_of};
+ghost use Rattle.entries.specs.Globals.{global_of};
 ghost use Rattle.writer.specs.Held.{Room};
 ghost use Rattle.finding.specs.Costs.{null_cost};
 ghost use Rattle.writer_globals.specs.Costs.{global_cost};
 ghost use Rattle.writer_globals.specs.Globals.{Initialised, Planned, GlobalKept, WrittenBy};
 
 use decorations::{access_of, block_base, decorate_access, decorate_binding, name_global};
-use entries::globals::{GlobalVariable, Init};
+use entries::globals::GlobalVariable;
 use kinds::AddressSpace;
 use lookup::LookupType;
 use pointers::{PointerForm, pointer_form_of, write_pointer};
 use records::{Counts, Options};
 use spirv::helpers::map_storage_class;
-use spirv::instructions::Initializer;
-use type_facts::{Access, Base};
 use writer::{Writer, sections};
 
 // The id of a global's init, if it has one.
 #[derive(Clone, Copy)]
 pub struct TakenInit {
-    pub init: Initializer,
+    pub init: Option<u64>,
     pub writer: Writer,
 }
 
@@ -44,13 +42,9 @@ fn gets_null(space: AddressSpace, zeroing: bool) -> bool
     ensures { result ≡ (eqb (space_number space) private_space || (eqb (space_number space) work_group_space && zeroing)) }
 {
     match space {
-        AddressSpace::Function => false,
         AddressSpace::Private => true,
         AddressSpace::WorkGroup => zeroing,
-        AddressSpace::Uniform => false,
-        AddressSpace::Storage { access: _ } => false,
-        AddressSpace::Handle => false,
-        AddressSpace::PushConstant => false,
+        _ => false,
     }
 }
 
@@ -58,25 +52,25 @@ fn write_init(
     tables: &mut [u64],
     sections: &mut [u32],
     w: Writer,
-    init: Init,
+    init: Option<u16>,
     null: bool,
     ty: u16,
 ) -> TakenInit
     requires { Room null_cost w tables.old sections.old }
-    ensures { Initialised (init_for (init_constant init) null ty) w tables.old sections.old result tables.new sections.new }
+    ensures { Initialised (init_for init null ty) w tables.old sections.old result tables.new sections.new }
 {
     match init {
-        Init::Constant(c) => {
+        Some(c) => {
             let x = writer::value_at(tables, w, c as usize);
             TakenInit {
-                init: Initializer::Id(x.id),
+                init: Some(x.id),
                 writer: w,
             }
         }
-        Init::Missing => {
+        None => {
             if !null {
                 return TakenInit {
-                    init: Initializer::Nothing,
+                    init: None,
                     writer: w,
                 };
             }
@@ -84,7 +78,7 @@ fn write_init(
             let z = finding::get_constant_null(tables, sections, w, x);
             let v = z.writer;
             TakenInit {
-                init: Initializer::Id(z.id),
+                init: Some(z.id),
                 writer: v,
             }
         }
@@ -96,9 +90,9 @@ fn write_init(
 // What a global's declaration goes by, read of the sheet before anything is written.
 #[derive(Clone, Copy)]
 pub struct Plan {
-    pub access: Access,
+    pub access: Option<u8>,
     pub form: PointerForm,
-    pub base: Base,
+    pub base: Option<u16>,
     pub null: bool,
 }
 

@@ -4,16 +4,14 @@ ghost use Rattle.definition.specs.State.{State};
 ghost use Rattle.definition.specs.Rules.{pointer_of};
 ghost use Rattle.records.specs.Places.{remap_from, types_from};
 ghost use Rattle.entries.specs.Globals.{global_of};
-ghost use Rattle.type_facts.specs.Facets.{number_of};
 ghost use Rattle.writer.specs.Held.{Room};
 ghost use Rattle.writer.specs.Steps.{GotBy};
 ghost use Rattle.writer_globals.specs.Costs.{wrapper_cost, pointer_cost};
 ghost use Rattle.writer_globals.specs.Globals.{wrap_in, pointer_by, pointer_form_in, size_for};
 
-use entries::globals::{Binding, GlobalVariable};
+use entries::globals::{GlobalVariable, ResourceBinding};
 use lookup::{LocalType, LookupType};
 use spirv::helpers::map_storage_class;
-use type_facts::{Base, Number};
 use writer::{Taken, Writer, sections};
 use writer_members::decorate_struct_member;
 
@@ -21,7 +19,7 @@ use writer_members::decorate_struct_member;
 #[derive(Clone, Copy)]
 pub enum PointerForm {
     Direct,
-    Wrapped { stride: Number },
+    Wrapped { stride: Option<u32> },
     Remapped { base: u16, size: u32 },
 }
 
@@ -34,10 +32,10 @@ fn write_wrapper(
     w: Writer,
     ty: u16,
     class: u32,
-    stride: Number,
+    stride: Option<u32>,
 ) -> Taken
     requires { Room wrapper_cost w tables.old sections.old }
-    ensures { GotBy wrapper_cost (wrap_in (number_of stride) ty class) w tables.old sections.old result tables.new sections.new }
+    ensures { GotBy wrapper_cost (wrap_in stride ty class) w tables.old sections.old result tables.new sections.new }
 {
     let n = writer::take_id(w);
     let id = n.id;
@@ -57,13 +55,18 @@ fn write_wrapper(
 // ---- the form
 
 // The size to which a global's binding is remapped; nothing remaps a global that is not bound.
-fn remapped_size(s: &[u8], remaps: &[u32], m: usize, binding: Binding) -> Number
+fn remapped_size(
+    s: &[u8],
+    remaps: &[u32],
+    m: usize,
+    binding: Option<ResourceBinding>,
+) -> Option<u32>
     requires { m ≤ length remaps.now }
-    ensures { number_of result ≡ size_for (map (remap_from s.now) (take m remaps.now)) binding }
+    ensures { result ≡ size_for (map (remap_from s.now) (take m remaps.now)) binding }
 {
     match binding {
-        Binding::Unbound => Number::Nothing,
-        Binding::Bound(r) => type_facts::remapped_size_of(s, remaps, m, r.group, r.binding),
+        None => None,
+        Some(r) => type_facts::remapped_size_of(s, remaps, m, r.group, r.binding),
     }
 }
 
@@ -87,10 +90,10 @@ pub fn pointer_form_of(
         return PointerForm::Wrapped { stride };
     }
     match type_facts::binding_base(sheet, types, ntypes, ty) {
-        Base::Nothing => PointerForm::Direct,
-        Base::Of(base) => match remapped_size(sheet, remaps, nremaps, binding) {
-            Number::Nothing => PointerForm::Direct,
-            Number::Of(size) => PointerForm::Remapped { base, size },
+        None => PointerForm::Direct,
+        Some(base) => match remapped_size(sheet, remaps, nremaps, binding) {
+            None => PointerForm::Direct,
+            Some(size) => PointerForm::Remapped { base, size },
         },
     }
 }

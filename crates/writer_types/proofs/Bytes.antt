@@ -4,7 +4,7 @@ use Prim.Native.Nat.{ℕ, zero, suc, ◌+◌, ◌≤◌}
 use mathlib.Core.Path.{◌≡◌}
 use mathlib.Core.Bool.{Bool, true, false}
 use mathlib.Core.List.{List}
-use mathlib.Core.Option.{some, none}
+use Rattle.std.specs.Prelude.{Some, None}
 use native.Mathlib.Omega.{arith}
 use lib.Dec.{eqb}
 use lib.ListN.{length, take, drop, length-take}
@@ -17,7 +17,8 @@ use Rattle.writer.specs.Cost.{Cost, a_type, naming, record_cost, ◌⊕◌}
 use Rattle.finding.specs.Costs.{cost_of}
 use Rattle.finding.proofs.Prices.{AtMost}
 use Rattle.writer_types.specs.Costs.{name_length, weight, inner_cost}
-use Rattle.writer_types.proofs.Walking.{members-length, few}
+use Rattle.members.proofs.Laws.{how_many}
+use Rattle.writer_types.proofs.Walking.{few}
 
 -- ---- names and members
 
@@ -25,7 +26,7 @@ name_bytes_lem : (b : List ℕ) (i : ℕ) → i + 1 + name_length (name_at b i) 
 unfolding name_at name_end
 name_bytes_lem b i = go (eqb (u8_at b i) 255)
   where
-    go : (c : Bool) → i + 1 + name_length (pick c none (some (take (u8_at b i) (drop (i + 1) b)))) ≤ pick c (i + 1) (i + 1 + u8_at b i)
+    go : (c : Bool) → i + 1 + name_length (pick c None (Some (take (u8_at b i) (drop (i + 1) b)))) ≤ pick c (i + 1) (i + 1 + u8_at b i)
     go true = omega arith
     go false = omega (arith, length-take (u8_at b i) (drop (i + 1) b))
 
@@ -57,7 +58,7 @@ type_bytes t b =
     let n = name_bytes_lem b 0 in
     let count = u8_at b (at + 4) in
     let m = member_bytes_lem b (at + 5) count in
-    let l = members-length b (at + 5) count in
+    let l = how_many b (at + 5) count in
     let f = few b (at + 5) count in
     let p = pointer_cost_lem (u8_at b at) (kind_of (u8_at b (at + 1)) (u8_at b (at + 2))) (storage_class (u8_at b (at + 3))) in
     let i = image_cost (u8_at b at) (u8_at b (at + 1)) (u8_at b (at + 2)) (u8_at b (at + 3)) (u8_at b (at + 4)) in

@@ -1,34 +1,31 @@
 -- A member's decorations and name, the loop over the members, the search for a dynamic array among them, and the struct. Each
 -- loop says: what is left, done to what there is now, comes to the whole. The bytes of the members that were passed pay for
 -- what was written.
-use Prim.Native.Nat.{ℕ, ◌+◌, ◌*◌, ◌-◌, ◌≤◌, ◌<◌}
-use mathlib.Core.Path.{◌≡◌, refl, sym, ap, ◌∙◌, subst}
+use Prim.Native.Nat.{ℕ, ◌+◌, ◌*◌, ◌≤◌, ◌<◌}
+use mathlib.Core.Path.{◌≡◌, refl, ap, ◌∙◌, subst}
 use mathlib.Core.Bool.{Bool, true, false, not, ◌&&◌, ◌||◌}
 use mathlib.Core.List.{List, [], ◌∷◌}
-use mathlib.Core.Option.{some, none}
+use Rattle.std.specs.Prelude.{Some, None, Option}
+use Rattle.std.specs.List.{list_any}
 use native.Mathlib.Numerals.{add-one}
 use native.Mathlib.Omega.{arith}
-use lib.ListN.{length, get_or}
-use Rattle.definition.specs.Bytes.{Name, u16_at, u32_at, name_at, name_end}
+use lib.ListN.{length}
+use Rattle.definition.specs.Bytes.{Name}
 use Rattle.definition.specs.Choice.{or_else}
 use Rattle.definition.specs.Numbers.{DecorationOffset}
 use Rattle.definition.specs.Instructions.{Instruction, member_decorate, member_name}
-use Rattle.definition.specs.Sheet.{Member, TypeEntry, members_at}
+use Rattle.definition.specs.Sheet.{Member, TypeEntry}
 use Rattle.definition.specs.State.{State, annotate}
 use Rattle.definition.specs.Tests.{present}
 use Rattle.definition.specs.Rules.{stride_member, label_if, decorate_member, matrix_stride, element_of, inner_at, is_dynamic, any_dynamic, annotate_if, block, declare_struct}
-use Rattle.type_facts.specs.declared.Number.{Number}
-use Rattle.type_facts.specs.Facets.{number_of}
 use Rattle.writer.specs.declared.Writer.{Writer}
 use Rattle.writer.specs.Cost.{naming, annotating, a_block, ◌⊕◌}
 use Rattle.writer.specs.Held.{Held, RoomFor, Grown}
 use Rattle.writer.specs.Steps.{Kept, Added}
 use Rattle.writer_members.specs.Members.{name_cost, member_decorated}
 use Rattle.writer_members.specs.Members as Shared
-use Rattle.writer_types.specs.Members.{member_at, decorated, StructPut}
+use Rattle.writer_types.specs.Members.{decorated, StructPut}
 use Rattle.writer_types.specs.Costs.{name_length, named_member_cost, weight, members_cost, struct_cost}
-use Rattle.writer_types.proofs.Walking.{members-length, split, none_left, weight_split}
-use Rattle.writer_types.proofs.Named.{name_short}
 use Rattle.writer_types.proofs.Passes.{as_defined}
 
 -- ---- one member
@@ -38,27 +35,26 @@ cost_few true bs = omega arith
 cost_few false bs = omega arith
 
 -- written or not, as the definition's label_if has it
-same_name : (d : Bool) (nm : Name) (write : List ℕ → Instruction) (s : State) → label_if (d && present nm) write (some (or_else [] nm)) s ≡ label_if d write nm s
+same_name : (d : Bool) (nm : Name) (write : List ℕ → Instruction) (s : State) → label_if (d && present nm) write (Some (or_else [] nm)) s ≡ label_if d write nm s
 same_name false nm write s = refl
-same_name true none write s = refl
-same_name true (some bs) write s = refl
+same_name true None write s = refl
+same_name true (Some bs) write s = refl
 
-module _ (b : List ℕ) (p : ℕ) (r : Bool) {bs : List ℕ} (eb : bs ≡ or_else [] (name_at b (p + 6))) {w : Writer} {S : List ℕ} where
-  pub member_room : get_or b (p + 6) 0 < 256 → RoomFor (named_member_cost (name_at b (p + 6))) w S → (length bs < 256) × RoomFor (Shared.member_cost r bs) w S
-  member_room h room = let l = ap length eb in (omega (arith, l, name_short b (p + 6) h), omega (arith, l, cost_few r bs, room))
+module _ (m : Member) (r : Bool) {bs : List ℕ} (eb : bs ≡ or_else [] m.name) {w : Writer} {S : List ℕ} where
+  pub member_room : RoomFor (named_member_cost m.name) w S → RoomFor (Shared.member_cost r bs) w S
+  member_room room = let l = ap length eb in omega (arith, l, cost_few r bs, room)
 
-  pub member : (debug : Bool) (ts : List TypeEntry) (id i : ℕ) {offset : ℕ} → offset ≡ u32_at b (p + 2) → r ≡ (debug && present (name_at b (p + 6)))
-      → {ty : ℕ} → ty ≡ u16_at b p → (x : Number) → number_of x ≡ matrix_stride (element_of ts (inner_at ts ty))
-      → {v : Writer} {S₁ : List ℕ} → Added (Shared.member_cost r bs) (member_decorated id i offset r bs (number_of x)) w S v S₁
-      → Added (named_member_cost (name_at b (p + 6))) (decorate_member debug ts id i (member_at b p)) w S v S₁
-  member debug ts id i eo er et x ex {v = v} {S₁ = S₁} m =
+  pub member : (debug : Bool) (ts : List TypeEntry) (id i : ℕ) → r ≡ (debug && present m.name)
+      → (x : Option ℕ) → x ≡ matrix_stride (element_of ts (inner_at ts m.type))
+      → {v : Writer} {S₁ : List ℕ} → Added (Shared.member_cost r bs) (member_decorated id i m.offset r bs x) w S v S₁
+      → Added (named_member_cost m.name) (decorate_member debug ts id i m) w S v S₁
+  member debug ts id i er x o {v = v} {S₁ = S₁} d =
       record {
-        grown = omega (arith, m.grown, cost_few r bs, ap length eb);
+        grown = omega (arith, d.grown, cost_few r bs, ap length eb);
         held = λ T s h.
-            let o = ex ∙ ap (λ (k : ℕ). matrix_stride (element_of ts (inner_at ts k))) et in
-            subst (Held v T S₁) ((λ j. member_decorated id i (eo j) (er j) (eb j) (o j) s)
-            ∙ ap (stride_member (matrix_stride (element_of ts (inner_at ts (u16_at b p)))) id i) (same_name debug (name_at b (p + 6)) (member_name id i) (annotate (member_decorate id i DecorationOffset (u32_at b (p + 2) ∷ [])) s)))
-            (m.held T s h);
+            subst (Held v T S₁) ((λ j. member_decorated id i m.offset (er j) (eb j) (o j) s)
+            ∙ ap (stride_member (matrix_stride (element_of ts (inner_at ts m.type))) id i) (same_name debug m.name (member_name id i) (annotate (member_decorate id i DecorationOffset (m.offset ∷ [])) s)))
+            (d.held T s h);
       }
 
 -- ---- Block
@@ -79,94 +75,73 @@ pub record Sofar (whole : State) (rest : State → State) (v : Writer) (T S : Li
   pub held : Held v T S state
   pub same : rest state ≡ whole
 
-pub record Going (debug : Bool) (ts : List TypeEntry) (b : List ℕ) (id first n : ℕ) (w : Writer) (S : List ℕ) (v : Writer) (S' : List ℕ) (p k i : ℕ) : Type 0 where
-  pub place : p + 300 * k ≤ first + 300 * n
-  pub count : i + k ≡ n
+-- of all the members, ms are left, the first of them member i
+pub record Going (debug : Bool) (ts : List TypeEntry) (id : ℕ) (all : List Member) (w : Writer) (S : List ℕ) (v : Writer) (S' : List ℕ) (ms : List Member) (i : ℕ) : Type 0 where
+  pub count : i + length ms ≡ length all
   pub size : length S' ≡ length S
   pub used : ℕ
-  pub left : used + weight (members_at b p k) ≡ weight (members_at b first n)
+  pub left : used + weight ms ≡ weight all
   pub grown : Grown (annotating (2 * used) ⊕ naming used) w v
-  pub held : (T : List ℕ) (s : State) → Held w T S s → Sofar (decorated debug ts id 0 (members_at b first n) s) (decorated debug ts id i (members_at b p k)) v T S'
+  pub held : (T : List ℕ) (s : State) → Held w T S s → Sofar (decorated debug ts id 0 all s) (decorated debug ts id i ms) v T S'
 
-module _ (debug : Bool) (ts : List TypeEntry) (b : List ℕ) (id first n : ℕ) (w : Writer) (S : List ℕ) where
-  pub begun : Going debug ts b id first n w S w S first n 0
-  begun = record { place = omega arith; count = omega arith; size = refl; used = 0; left = omega arith; grown = omega arith; held = λ T s h. record { state = s; held = h; same = refl } }
+module _ (debug : Bool) (ts : List TypeEntry) (id : ℕ) (all : List Member) (w : Writer) (S : List ℕ) where
+  pub begun : Going debug ts id all w S w S all 0
+  begun = record { count = omega arith; size = refl; used = 0; left = omega arith; grown = omega arith; held = λ T s h. record { state = s; held = h; same = refl } }
 
-  module _ (v : Writer) (S₁ : List ℕ) (p k i : ℕ) (g : Going debug ts b id first n w S v S₁ p k i) where
-    -- there is room for one more
-    pub room_left : 0 < k → g.used + 7 + name_length (name_at b (p + 6)) ≤ weight (members_at b first n)
-    room_left h = omega (arith, weight_split b p k h (name_end b (p + 6)) refl, g.left)
+  module _ (v : Writer) (S₁ : List ℕ) (i : ℕ) where
+    -- one more is left: there is a number and room for it
+    pub room_left : (m : Member) (ms all' : List Member) → all' ≡ m ∷ ms → (g : Going debug ts id all w S v S₁ all' i) → (i < length all) × (g.used + 7 + name_length m.name ≤ weight all)
+    unfolding weight
+    room_left m ms all' e g = (omega (arith, g.count, ap length e), omega (arith, g.left, ap weight e))
 
-    pub on : 0 < k → (q : ℕ) → q ≡ name_end b (p + 6) → q ≤ p + 6 + 255 → (u : Writer) (S₂ : List ℕ) → Added (named_member_cost (name_at b (p + 6))) (decorate_member debug ts id i (member_at b p)) v S₁ u S₂
-        → length S₂ ≡ length S₁ → Going debug ts b id first n w S u S₂ q (k - 1) (i + 1)
-    unfolding decorated
-    on h q eq hq u S₂ d l =
+    pub on : (m : Member) (ms all' : List Member) → all' ≡ m ∷ ms → Going debug ts id all w S v S₁ all' i → (j k : ℕ) → j ≡ i → k ≡ i + 1 → (u : Writer) (S₂ : List ℕ)
+        → Added (named_member_cost m.name) (decorate_member debug ts id j m) v S₁ u S₂ → length S₂ ≡ length S₁ → Going debug ts id all w S u S₂ ms k
+    unfolding decorated weight
+    on m ms all' e h j k ej ek u S₂ d l =
+        let g = subst (λ (l : List Member). Going debug ts id all w S v S₁ l i) e h in
         record {
-          place = omega (arith, g.place);
           count = omega (arith, g.count);
           size = l ∙ g.size;
-          used = g.used + 7 + name_length (name_at b (p + 6));
-          left = omega (arith, g.left, weight_split b p k h q eq);
+          used = g.used + 7 + name_length m.name;
+          left = omega (arith, g.left);
           grown = omega (arith, g.grown, d.grown);
-          held = λ T s m.
-              let x = g.held T s m in
+          held = λ T s h.
+              let x = g.held T s h in
               record {
-                state = decorate_member debug ts id i (member_at b p) x.state;
+                state = decorate_member debug ts id j m x.state;
                 held = d.held T x.state x.held;
-                same = ap (λ (j : ℕ). decorated debug ts id j (members_at b q (k - 1)) (decorate_member debug ts id i (member_at b p) x.state)) (add-one i)
-                    ∙ ap (λ (ms : List Member). decorated debug ts id i ms x.state) (sym (split b p k h q eq)) ∙ x.same;
+                same = (λ z. decorated debug ts id ((ek ∙ add-one i) z) ms (decorate_member debug ts id (ej z) m x.state)) ∙ x.same;
               };
         }
 
-    pub done : k ≡ 0 → Added (members_cost (members_at b first n)) (decorated debug ts id 0 (members_at b first n)) w S v S₁
-    unfolding decorated
-    done e =
+    pub done : (all' : List Member) → all' ≡ [] → Going debug ts id all w S v S₁ all' i → Added (members_cost all) (decorated debug ts id 0 all) w S v S₁
+    unfolding decorated weight
+    done all' e h =
+        let g = subst (λ (l : List Member). Going debug ts id all w S v S₁ l i) e h in
         record {
           grown = omega (arith, g.grown, g.left);
-          held = λ T s m.
-              let x = g.held T s m in
-              subst (Held v T S₁) (sym (ap (λ (ms : List Member). decorated debug ts id i ms x.state) (none_left b p k e)) ∙ x.same) x.held;
+          held = λ T s h. let x = g.held T s h in subst (Held v T S₁) x.same x.held;
         }
 
 -- ---- a dynamic array among them
 
-pub record Seeking (ts : List TypeEntry) (b : List ℕ) (first n p k : ℕ) : Type 0 where
-  pub place : p + 300 * k ≤ first + 300 * n
-  pub same : any_dynamic ts (members_at b p k) ≡ any_dynamic ts (members_at b first n)
-
-module _ (ts : List TypeEntry) (b : List ℕ) (first n : ℕ) where
-  pub sought : Seeking ts b first n first n
-  sought = record { place = omega arith; same = refl }
-
-  module _ (p k : ℕ) (g : Seeking ts b first n p k) where
-    module _ (h : 0 < k) (ty : ℕ) (et : ty ≡ u16_at b p) (r : Bool) (er : r ≡ is_dynamic (inner_at ts ty)) where
-      step : (q : ℕ) → q ≡ name_end b (p + 6) → any_dynamic ts (members_at b p k) ≡ (r || any_dynamic ts (members_at b q (k - 1)))
-      unfolding any_dynamic
-      step q eq = ap (any_dynamic ts) (split b p k h q eq) ∙ ap (λ (x : Bool). x || any_dynamic ts (members_at b q (k - 1))) (sym (er ∙ ap (λ (j : ℕ). is_dynamic (inner_at ts j)) et))
-
-      pub hit : r ≡ true → true ≡ any_dynamic ts (members_at b first n)
-      hit e = sym (sym g.same ∙ step (name_end b (p + 6)) refl ∙ ap (λ (x : Bool). x || any_dynamic ts (members_at b (name_end b (p + 6)) (k - 1))) e)
-
-      pub miss : r ≡ false → (q : ℕ) → q ≡ name_end b (p + 6) → q ≤ p + 6 + 255 → Seeking ts b first n q (k - 1)
-      miss e q eq hq = record { place = omega (arith, g.place); same = sym (step q eq ∙ ap (λ (x : Bool). x || any_dynamic ts (members_at b q (k - 1))) e) ∙ g.same }
-
-    pub lacking : k ≡ 0 → false ≡ any_dynamic ts (members_at b first n)
-    unfolding any_dynamic
-    lacking e = sym (ap (any_dynamic ts) (none_left b p k e)) ∙ g.same
+pub any_dynamic_lem : (ts : List TypeEntry) (ms : List Member) → list_any (λ m. is_dynamic (inner_at ts m.type)) ms ≡ any_dynamic ts ms
+unfolding any_dynamic
+any_dynamic_lem ts [] = refl
+any_dynamic_lem ts (m ∷ ms) = ap (λ (x : Bool). is_dynamic (inner_at ts m.type) || x) (any_dynamic_lem ts ms)
 
 -- ---- the struct
 
-pub declared : (debug : Bool) (ts : List TypeEntry) (id : ℕ) (b : List ℕ) (first n : ℕ) (w : Writer) (T S : List ℕ)
-    → (v : Writer) (S₁ : List ℕ) → Added (members_cost (members_at b first n)) (decorated debug ts id 0 (members_at b first n)) w S v S₁
-    → (d : Bool) → d ≡ any_dynamic ts (members_at b first n) → (u : Writer) (T₂ S₂ : List ℕ) → Kept a_block (annotate_if d (block id)) v T S₁ u T₂ S₂
-    → (r : Writer) (S₃ : List ℕ) → StructPut id (members_at b first n) n u T₂ S₂ r S₃
-    → Kept (struct_cost (members_at b first n)) (declare_struct debug ts id (members_at b first n)) w T S r T₂ S₃
-declared debug ts id b first n w T S v S₁ x d ed u T₂ S₂ y r S₃ z =
+pub declared : (debug : Bool) (ts : List TypeEntry) (id : ℕ) (ms : List Member) (w : Writer) (T S : List ℕ)
+    → (v : Writer) (S₁ : List ℕ) → Added (members_cost ms) (decorated debug ts id 0 ms) w S v S₁
+    → (d : Bool) → d ≡ any_dynamic ts ms → (u : Writer) (T₂ S₂ : List ℕ) → Kept a_block (annotate_if d (block id)) v T S₁ u T₂ S₂
+    → (r : Writer) (S₃ : List ℕ) → StructPut id ms u T₂ S₂ r S₃
+    → Kept (struct_cost ms) (declare_struct debug ts id ms) w T S r T₂ S₃
+declared debug ts id ms w T S v S₁ x d ed u T₂ S₂ y r S₃ z =
     record {
-      grown = omega (arith, x.grown, y.grown, z.grown, members-length b first n);
+      grown = omega (arith, x.grown, y.grown, z.grown);
       tail = record { parts = omega (arith, x.grown, y.grown, z.grown); ids = λ j l. y.tail.ids j (omega (arith, x.grown)) };
       held = λ s h.
-          let ms = members_at b first n in
           let m = decorated debug ts id 0 ms s in
           let k = subst (λ (c : Bool). Held u T₂ S₂ (annotate_if c (block id) m)) ed (y.held m (x.held T s h)) in
           subst (Held r T₂ S₃) (as_defined debug ts id ms s) (z.held (annotate_if (any_dynamic ts ms) (block id) m) k);

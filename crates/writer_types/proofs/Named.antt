@@ -3,7 +3,7 @@ use Prim.Native.Nat.{ℕ, ◌+◌, ◌<◌}
 use mathlib.Core.Path.{◌≡◌, sym, subst, ap, ◌∙◌}
 use mathlib.Core.Bool.{Bool, true, false, not, ◌&&◌}
 use mathlib.Core.List.{List, []}
-use mathlib.Core.Option.{some, none}
+use Rattle.std.specs.Prelude.{Some, None}
 use native.Mathlib.Omega.{arith}
 use lib.Dec.{eqb}
 use lib.ListN.{length, get_or, take, drop, length-take}
@@ -28,14 +28,14 @@ still c w S = record { grown = omega arith; held = λ T s h. h }
 module _ (c : ℕ) (write : List ℕ → Instruction) (w : Writer) (S : List ℕ) where
   pub unnamed : (d : Bool) (nm : Name) (r : Bool) → r ≡ (d && present nm) → not r ≡ true → Added (naming (name_length nm + c)) (label_if d write nm) w S w S
   unnamed false nm r e f = still (naming (name_length nm + c)) w S
-  unnamed true none r e f = still (naming (name_length none + c)) w S
-  unnamed true (some bs) r e f = let z : not true ≡ true = sym (ap not e) ∙ f in let y : ◌≡◌ {A = ℕ} 0 1 = cc in absurd (omega arith)
+  unnamed true None r e f = still (naming (name_length None + c)) w S
+  unnamed true (Some bs) r e f = let z : not true ≡ true = sym (ap not e) ∙ f in let y : ◌≡◌ {A = ℕ} 0 1 = cc in absurd (omega arith)
 
   pub named : (d : Bool) (nm : Name) (r : Bool) → r ≡ (d && present nm) → not r ≡ false → (bs : List ℕ) → bs ≡ or_else [] nm
       → (v : Writer) (S' : List ℕ) → Puts names (length bs + c) (write bs) w S v S' → Added (naming (name_length nm + c)) (label_if d write nm) w S v S'
   named false nm r e f bs q v S' h = let z : not false ≡ false = sym (ap not e) ∙ f in let y : ◌≡◌ {A = ℕ} 0 1 = cc in absurd (omega arith)
-  named true none r e f bs q v S' h = let z : not false ≡ false = sym (ap not e) ∙ f in let y : ◌≡◌ {A = ℕ} 0 1 = cc in absurd (omega arith)
-  named true (some xs) r e f bs q v S' h = let p = subst (λ (b : List ℕ). Puts names (length b + c) (write b) w S v S') q h in record { grown = p.grown; held = p.held }
+  named true None r e f bs q v S' h = let z : not false ≡ false = sym (ap not e) ∙ f in let y : ◌≡◌ {A = ℕ} 0 1 = cc in absurd (omega arith)
+  named true (Some xs) r e f bs q v S' h = let p = subst (λ (b : List ℕ). Puts names (length b + c) (write b) w S v S') q h in record { grown = p.grown; held = p.held }
 
 -- ---- the room for it
 
@@ -44,7 +44,7 @@ pub name_short : (b : List ℕ) (i : ℕ) → get_or b i 0 < 256 → name_length
 unfolding name_at
 name_short b i h = go (eqb (u8_at b i) 255)
   where
-    go : (c : Bool) → name_length (pick c none (some (take (u8_at b i) (drop (i + 1) b)))) < 256
+    go : (c : Bool) → name_length (pick c None (Some (take (u8_at b i) (drop (i + 1) b)))) < 256
     go true = omega arith
     go false = omega (arith, length-take (u8_at b i) (drop (i + 1) b))
 

@@ -4,7 +4,7 @@ use Prim.Native.Nat.{ℕ, suc}
 use mathlib.Core.Path.{◌≡◌, refl, sym, ap, ◌∙◌}
 use mathlib.Core.Bool.{Bool, true, false}
 use mathlib.Core.List.{List, [], ◌∷◌, map}
-use mathlib.Core.Option.{Option, some, none}
+use Rattle.std.specs.Prelude.{Option, Some, None}
 use Rattle.definition.specs.Bytes.{Name}
 use Rattle.definition.specs.Choice.{or_else}
 use Rattle.definition.specs.Instructions.{Instruction, member_name, member_decorate, type_struct}
@@ -23,13 +23,13 @@ ids_alike ms s t e = ap (λ (l : List (Key × ℕ)). map (λ (m : Member). or_el
 -- ---- what enters no key
 
 stride_types : (o : Option ℕ) (id i : ℕ) (s : State) → (stride_member o id i s).types ≡ s.types
-stride_types none id i s = refl
-stride_types (some n) id i s = refl
+stride_types None id i s = refl
+stride_types (Some n) id i s = refl
 
 label_types : (d : Bool) (write : List ℕ → Instruction) (nm : Name) (s : State) → (label_if d write nm s).types ≡ s.types
 label_types false write nm s = refl
-label_types true write none s = refl
-label_types true write (some bs) s = refl
+label_types true write None s = refl
+label_types true write (Some bs) s = refl
 
 annotate_types : (d : Bool) (i : Instruction) (s : State) → (annotate_if d i s).types ≡ s.types
 annotate_types false i s = refl

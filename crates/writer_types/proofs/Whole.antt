@@ -5,7 +5,7 @@ use Prim.Native.Nat.{ℕ, suc, ◌+◌}
 use mathlib.Core.Path.{◌≡◌, refl, sym, ap, ◌∙◌, subst}
 use mathlib.Core.Bool.{Bool}
 use mathlib.Core.List.{List}
-use mathlib.Core.Option.{Option, none}
+use Rattle.std.specs.Prelude.{Option, None, option_map, Some}
 use native.Mathlib.Omega.{arith}
 use lib.ListN.{length}
 use Rattle.definition.specs.Bytes.{name_at}
@@ -18,9 +18,6 @@ use Rattle.definition.specs.Rules.{declare_aggregate, declare_inner, declare_typ
 use Rattle.entries.specs.declared.types.TypeInner as Program
 use Rattle.lookup.specs.declared.LocalType.{LocalType}
 use Rattle.lookup.specs.Local.{local_shape}
-use Rattle.locals.specs.declared.MaybeLocal.{MaybeLocal}
-use Rattle.locals.specs.declared.MaybeLocal.TheVariants.{Local, Aggregate}
-use Rattle.locals.specs.Made.{made_of}
 use Rattle.lookup.specs.Packed.{packed_key, Small}
 use Rattle.writer.specs.declared.Writer.{Writer}
 use Rattle.writer.specs.declared.Taken.{Taken}
@@ -56,23 +53,23 @@ module _ (b : List ℕ) (first p c : ℕ) (e : first ≡ p) (w : Writer) (T S : 
 
 -- ---- a shape or an aggregate: m is what the program makes of the entry
 
-module _ (i : TypeInner) (m : MaybeLocal) (em : made_of m ≡ shape_of i) (w : Writer) (T S : List ℕ) where
-  module _ (l : LocalType) (el : m ≡ Local l) where
+module _ (i : TypeInner) (m : Option LocalType) (em : option_map local_shape m ≡ shape_of i) (w : Writer) (T S : List ℕ) where
+  module _ (l : LocalType) (el : m ≡ Some l) where
     pub shape_room : Room (inner_cost i) w T S → Room (cost_of (shape (local_shape l))) w T S
-    shape_room r = subst (λ (o : Option Shape). Room (shaped_cost o i) w T S) (sym em ∙ ap made_of el) r
+    shape_room r = subst (λ (o : Option Shape). Room (shaped_cost o i) w T S) (sym em ∙ ap (option_map local_shape) el) r
 
     pub shape_got : (debug : Bool) (ts : List TypeEntry) (r : Taken) (T' S' : List ℕ) → GotBy (cost_of (shape (local_shape l))) (find (shape (local_shape l))) w T S r T' S'
         → GotBy (inner_cost i) (inner_declared debug ts i) w T S r T' S'
-    shape_got debug ts r T' S' g = subst (λ (o : Option Shape). GotBy (shaped_cost o i) (declare_inner debug ts o i) w T S r T' S') (sym (ap made_of el) ∙ em) g
+    shape_got debug ts r T' S' g = subst (λ (o : Option Shape). GotBy (shaped_cost o i) (declare_inner debug ts o i) w T S r T' S') (sym (ap (option_map local_shape) el) ∙ em) g
 
-  module _ (el : m ≡ Aggregate) where
-    pub aggregate_room : Room (inner_cost i) w T S → Room (shaped_cost none i) w T S
-    aggregate_room r = subst (λ (o : Option Shape). Room (shaped_cost o i) w T S) (sym em ∙ ap made_of el) r
+  module _ (el : m ≡ None) where
+    pub aggregate_room : Room (inner_cost i) w T S → Room (shaped_cost None i) w T S
+    aggregate_room r = subst (λ (o : Option Shape). Room (shaped_cost o i) w T S) (sym em ∙ ap (option_map local_shape) el) r
 
     pub aggregate_got : (debug : Bool) (ts : List TypeEntry) (k : Taken) → Took w k → (v : Writer) (T' S' : List ℕ) → Kept (aggregate_cost i) (declare_aggregate debug ts i k.id) k.writer T S v T' S'
         → GotBy (inner_cost i) (inner_declared debug ts i) w T S (taken k.id v) T' S'
     aggregate_got debug ts k p v T' S' d =
-        subst (λ (o : Option Shape). GotBy (shaped_cost o i) (declare_inner debug ts o i) w T S (taken k.id v) T' S') (sym (ap made_of el) ∙ em) (record {
+        subst (λ (o : Option Shape). GotBy (shaped_cost o i) (declare_inner debug ts o i) w T S (taken k.id v) T' S') (sym (ap (option_map local_shape) el) ∙ em) (record {
           grown = omega (arith, p.grown, d.grown);
           tail = record { parts = omega (arith, p.grown, d.tail); ids = λ j l. d.tail.ids j (omega (arith, p.grown)) };
           gives = λ s h.

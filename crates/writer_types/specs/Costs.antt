@@ -1,6 +1,6 @@
 -- What a type entry costs, by the definition's fields.
 use Rattle.std.specs.Prelude.{ℕ, ◌+◌, ◌*◌, List, [], ◌∷◌, length}
-use Rattle.std.proofs.Math.Option.{Option, some, none}
+use Rattle.std.specs.Prelude.{Option, Some, None}
 use Rattle.definition.specs.Bytes.{Name}
 use Rattle.definition.specs.Choice.{or_else}
 use Rattle.definition.specs.Sheet.{Member, TypeInner}
@@ -64,8 +64,8 @@ aggregate_cost (BindingArray b n) = elements_cost
 
 -- a shape is found, an aggregate takes an id
 abbrev pub shaped_cost : Option Shape → TypeInner → Cost
-shaped_cost (some l) i = cost_of (shape l)
-shaped_cost none i = an_id ⊕ aggregate_cost i
+shaped_cost (Some l) i = cost_of (shape l)
+shaped_cost None i = an_id ⊕ aggregate_cost i
 
 -- by the shape that it has
 abbrev pub inner_cost : TypeInner → Cost

@@ -1,7 +1,6 @@
 -- The members of a struct in two passes: all are decorated and named, then their types' ids are put. Finding an entry changes
 -- nothing, so this is the definition's one pass (proofs/Passes.antt).
-use Rattle.std.specs.Prelude.{ℕ, suc, ◌+◌, Bool, List, [], ◌∷◌, map}
-use Rattle.definition.specs.Bytes.{u16_at, u32_at, name_at}
+use Rattle.std.specs.Prelude.{ℕ, suc, ◌+◌, Bool, List, [], ◌∷◌, map, length}
 use Rattle.definition.specs.Choice.{or_else}
 use Rattle.definition.specs.Instructions.{type_struct}
 use Rattle.definition.specs.Sheet.{Member, TypeEntry}
@@ -11,10 +10,6 @@ use Rattle.definition.specs.Rules.{decorate_member}
 use Rattle.writer.specs.declared.Writer.{Writer}
 use Rattle.writer.specs.Cost.{declaring}
 use Rattle.writer.specs.Held.{Held, Grown}
-
--- the member that stands at a place of a body
-abbrev pub member_at : List ℕ → ℕ → Member
-member_at b p = record { type = u16_at b p; offset = u32_at b (p + 2); name = name_at b (p + 6) }
 
 -- ---- the first pass
 
@@ -33,7 +28,7 @@ ids_in s ms = map (λ m. or_else 0 (id_of s (entry m.type))) ms
 abbrev pub struct_put : ℕ → List Member → State → State
 struct_put id ms s = declare_alone (type_struct id (ids_in s ms)) s
 
--- the instruction of n members is put; the tables are only read
-pub record StructPut (id : ℕ) (ms : List Member) (n : ℕ) (w : Writer) (T S : List ℕ) (v : Writer) (S' : List ℕ) : Type 0 where
-  pub grown : Grown (declaring (n + 2)) w v
+-- the instruction of these members is put; the tables are only read
+pub record StructPut (id : ℕ) (ms : List Member) (w : Writer) (T S : List ℕ) (v : Writer) (S' : List ℕ) : Type 0 where
+  pub grown : Grown (declaring (length ms + 2)) w v
   pub held : (s : State) → Held w T S s → Held v T S' (struct_put id ms s)

@@ -1,6 +1,6 @@
 // Arrays, and a struct's instruction, each under the id that was taken for it.
-ghost use Rattle.std.specs.Prelude.{◌+◌, ◌<◌};
-ghost use Rattle.definition.specs.Sheet.{members_at};
+ghost use Rattle.std.specs.Prelude.{◌+◌, length};
+ghost use Rattle.members.specs.Walk.{members_left};
 ghost use Rattle.writer.specs.Cost.{no_cost, declaring};
 ghost use Rattle.writer.specs.Held.{RoomIn, RoomFor, Room};
 ghost use Rattle.writer.specs.Steps.{Kept};
@@ -9,6 +9,7 @@ ghost use Rattle.writer_types.specs.Members.{StructPut};
 ghost use Rattle.writer_types.specs.Costs.{elements_cost, array_cost};
 
 use lookup::LookupType;
+use members::Members;
 use spirv::instructions::DECORATION_ARRAY_STRIDE;
 use spirv::low_word;
 use writer::{Writer, sections};
@@ -50,32 +51,23 @@ pub fn write_array(
     write_elements(tables, sections, a, id, base, size)
 }
 
-// OpTypeStruct of the `count` members from `first` on. Its head goes out first, since the count is known; then an id a turn,
-// so that the ids need no array. A member's type is an entry, and
-// finding an entry adds nothing.
+// OpTypeStruct of these members. Its head goes out first, since the count is known; then an id a turn, so that the ids need no
+// array. A member's type is an entry, and finding an entry adds nothing.
 pub fn put_struct(
     tables: &[u64],
     sections: &mut [u32],
     w: Writer,
-    body: &[u8],
     id: u64,
-    first: usize,
-    count: u8,
+    members: Members<'_>,
 ) -> Writer
-    requires { (first < 1000) × (RoomIn no_cost w tables.now × RoomFor (declaring (count + 2)) w sections.old) }
-    ensures { StructPut id (members_at body.now first count) count w tables.now sections.old result sections.new }
+    requires { RoomIn no_cost w tables.now × RoomFor (declaring (length (members_left members) + 2)) w sections.old }
+    ensures { StructPut id (members_left members.entry) w tables.now sections.old result sections.new }
 {
-    sections::type_struct_head(sections, w, id, count as usize);
-    let mut p = first;
-    let mut k = count;
-    let mut j: usize = 2;
-    while 0 < k {
-        let ty = fields::u16_at(body, p);
-        let x = finding::type_id(tables, w, LookupType::Handle(ty));
-        writer::put_pending(sections, w, j, low_word(x));
-        p = fields::name_end(body, p + 6);
-        j += 1;
-        k -= 1;
+    let count = members.len();
+    sections::type_struct_head(sections, w, id, count);
+    for (i, m) in members.enumerate() {
+        let x = finding::type_id(tables, w, LookupType::Handle(m.ty));
+        writer::put_pending(sections, w, i + 2, low_word(x));
     }
-    writer::commit(w, j)
+    writer::commit(w, count + 2)
 }

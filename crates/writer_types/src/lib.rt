@@ -18,7 +18,6 @@ ghost use Rattle.writer_types.specs.Costs.{aggregate_cost, inner_cost};
 ghost use Rattle.writer_types.specs.Tested.{TypeRead, EntryOf};
 
 use entries::types::TypeInner;
-use locals::MaybeLocal;
 use lookup::LookupType;
 use writer::{Taken, Writer};
 
@@ -104,8 +103,8 @@ fn declare_inner(
     ensures { GotBy (inner_cost (inner_in b.now t)) (inner_declared debug (types_from s.now types.now n) (inner_in b.now t)) w tables.old sections.old result tables.new sections.new }
 {
     match locals::make_local(t) {
-        MaybeLocal::Local(l) => finding::get_type_id(tables, sections, w, LookupType::Local(l)),
-        MaybeLocal::Aggregate => {
+        Some(l) => finding::get_type_id(tables, sections, w, LookupType::Local(l)),
+        None => {
             let k = writer::take_id(w);
             let id = k.id;
             let v = write_aggregate(tables, sections, k.writer, s, types, n, b, debug, t, id);

@@ -1,90 +1,82 @@
-// A struct in two passes: its members' decorations and names, and Block; then OpTypeStruct. A member is 16 bits of type, 32 of
-// offset, and a name; the next stands behind the name.
-ghost use Rattle.std.specs.Prelude.{◌≡◌, ◌+◌, ◌≤◌, ◌<◌, length};
+// A struct in two passes: its members' decorations and names, and Block; then OpTypeStruct.
+ghost use Rattle.std.specs.Prelude.{◌≡◌, ◌≤◌, ◌<◌, ◌^◌, [], length};
 ghost use Rattle.definition.specs.Bytes.{name_at};
+ghost use Rattle.definition.specs.Choice.{or_else};
 ghost use Rattle.definition.specs.Sheet.{members_at};
 ghost use Rattle.definition.specs.Rules.{decorate_member, any_dynamic, annotate_if, block, declare_struct};
+ghost use Rattle.members.specs.Walk.{member_of, members_left};
 ghost use Rattle.records.specs.Places.{types_from};
 ghost use Rattle.writer.specs.Cost.{a_block};
 ghost use Rattle.writer.specs.Held.{RoomFor, Room};
 ghost use Rattle.writer.specs.Steps.{Kept, Added};
-ghost use Rattle.writer_types.specs.Members.{member_at, decorated};
+ghost use Rattle.writer_types.specs.Members.{decorated};
 ghost use Rattle.writer_types.specs.Costs.{named_member_cost, members_cost, struct_cost};
 
 use crate::aggregates::put_struct;
 use crate::names::is_written;
 use entries::members::name_part;
+use members::{Member, Members};
 use type_facts::{element_stride, is_dynamic};
 use writer::Writer;
 use writer_members::decorate_struct_member;
 
-// Member i, which stands at p.
-fn decorate_member_at(
+// The bytes of the name at i, whose length is a byte.
+fn short_name(body: &[u8], i: usize) -> &[u8]
+    requires { i < 2 ^ 63 }
+    ensures value { result.now ≡ or_else [] (name_at body.now i) }
+    ensures short { length result.now < 256 }
+{
+    name_part(body, i)
+}
+
+// Member i.
+fn decorate_member(
     sections: &mut [u32],
     w: Writer,
     s: &[u8],
     types: &[u32],
     n: usize,
-    b: &[u8],
     debug: bool,
     id: u64,
     i: u32,
-    p: usize,
+    m: Member<'_>,
 ) -> Writer
-    requires { (n ≤ length types.now) × ((p < 4294967296) × RoomFor (named_member_cost (name_at b.now (p + 6))) w sections.old) }
-    ensures { Added (named_member_cost (name_at b.now (p + 6))) (decorate_member debug (types_from s.now types.now n) id i (member_at b.now p)) w sections.old result sections.new }
+    requires { (n ≤ length types.now) × RoomFor (named_member_cost (member_of m).name) w sections.old }
+    ensures { Added (named_member_cost (member_of m.entry).name) (decorate_member debug (types_from s.now types.now n) id i (member_of m.entry)) w sections.old result sections.new }
 {
-    let offset = fields::u32_at(b, p + 2);
-    let named = is_written(b, debug, p + 6);
-    let stride = element_stride(s, types, n, fields::u16_at(b, p) as usize);
-    let name = name_part(b, p + 6);
-    decorate_struct_member(sections, w, id, i, offset, named, name, stride)
+    let named = is_written(m.body, debug, m.name);
+    let stride = element_stride(s, types, n, m.ty as usize);
+    let name = short_name(m.body, m.name);
+    decorate_struct_member(sections, w, id, i, m.offset, named, name, stride)
 }
 
-// The `count` members from `first` on, one after the other.
+// These members, one after the other.
 fn decorate_struct_members(
     sections: &mut [u32],
     w: Writer,
     s: &[u8],
     types: &[u32],
     n: usize,
-    b: &[u8],
     debug: bool,
     id: u64,
-    first: usize,
-    count: u8,
+    members: Members<'_>,
 ) -> Writer
-    requires { (n ≤ length types.now) × ((first < 1000) × RoomFor (members_cost (members_at b.now first count)) w sections.old) }
-    ensures { Added (members_cost (members_at b.now first count)) (decorated debug (types_from s.now types.now n) id 0 (members_at b.now first count)) w sections.old result sections.new }
+    requires { (n ≤ length types.now) × RoomFor (members_cost (members_left members)) w sections.old }
+    ensures { Added (members_cost (members_left members.entry)) (decorated debug (types_from s.now types.now n) id 0 (members_left members.entry)) w sections.old result sections.new }
 {
     let mut v = w;
-    let mut p = first;
-    let mut k = count;
-    let mut i: u32 = 0;
-    while 0 < k {
-        v = decorate_member_at(sections, v, s, types, n, b, debug, id, i, p);
-        p = fields::name_end(b, p + 6);
-        i += 1;
-        k -= 1;
+    for (i, m) in members.enumerate() {
+        v = decorate_member(sections, v, s, types, n, debug, id, i as u32, m);
     }
     v
 }
 
 // Whether one of them is a dynamic array.
-fn has_runtime_array(s: &[u8], types: &[u32], n: usize, b: &[u8], first: usize, count: u8) -> bool
-    requires { (n ≤ length types.now) × (first < 1000) }
-    ensures { result ≡ any_dynamic (types_from s.now types.now n) (members_at b.now first count) }
+fn has_runtime_array(s: &[u8], types: &[u32], n: usize, mut members: Members<'_>) -> bool
+    requires { n ≤ length types.now }
+    ensures { result ≡ any_dynamic (types_from s.now types.now n) (members_left members.entry) }
 {
-    let mut p = first;
-    let mut k = count;
-    while 0 < k {
-        if is_dynamic(s, types, n, fields::u16_at(b, p) as usize) {
-            return true;
-        }
-        p = fields::name_end(b, p + 6);
-        k -= 1;
-    }
-    false
+    members.any(|m| is_dynamic(s, types, n, m.ty as usize))
 }
 
 // Block goes on a struct with a dynamic array, whose id has just been taken: nothing is on it yet.
@@ -115,10 +107,9 @@ pub fn write_struct(
     requires { (ntypes ≤ length types.now) × ((first < 1000) × Room (struct_cost (members_at body.now first count)) w tables.old sections.old) }
     ensures { Kept (struct_cost (members_at body.now first count)) (declare_struct debug (types_from sheet.now types.now ntypes) id (members_at body.now first count)) w tables.old sections.old result tables.new sections.new }
 {
-    let v = decorate_struct_members(
-        sections, w, sheet, types, ntypes, body, debug, id, first, count,
-    );
-    let d = has_runtime_array(sheet, types, ntypes, body, first, count);
+    let members = Members::new(body, first, count);
+    let v = decorate_struct_members(sections, w, sheet, types, ntypes, debug, id, members);
+    let d = has_runtime_array(sheet, types, ntypes, members);
     let u = block_if(tables, sections, v, d, id);
-    put_struct(tables, sections, u, body, id, first, count)
+    put_struct(tables, sections, u, id, members)
 }

@@ -1,5 +1,5 @@
 -- The definition decides the types in their order, each given the flags of those before it. Here one type by itself: it is
--- zeroable as its fields say, where a part counts if it stands before it and is zeroable. Then the same by the type's tag.
+-- zeroable as its fields say, where a part counts if it stands before it and is zeroable.
 use Prim.Native.Nat.{ℕ, zero, suc, ◌+◌, ◌≤◌, ◌<◌}
 use mathlib.Core.Path.{◌≡◌, refl, ap, sym, ◌∙◌, fun_ext}
 use mathlib.Core.Bool.{Bool, false, ◌&&◌}
@@ -7,16 +7,14 @@ use mathlib.Core.List.{List, [], ◌∷◌, ◌++◌}
 use native.Mathlib.Omega.{arith}
 use native.Mathlib.Nat.{not-suc-le-zero}
 use native.Mathlib.Decide.{dec_lt}
-use borrow.Author.Tests.{lt-ltb, le-ltb, ne_eqb}
-use lib.Dec.{eqb, ltb}
-use lib.ListN.{length, drop, get_or, length-append, get_or-append, get_or-eq_default}
+use borrow.Author.Tests.{lt-ltb, le-ltb}
+use lib.Dec.{ltb}
+use lib.ListN.{length, get_or, length-append, get_or-append, get_or-eq_default}
 use lib.Seq.{get_or-append_seam}
-use Rattle.definition.specs.Bytes.{name_end}
-use Rattle.definition.specs.Sheet.{Fields, TypeInner, TypeEntry, type_fields, record_at}
+use Rattle.definition.specs.Sheet.{TypeEntry}
 use Rattle.definition.specs.Zeroable.{zeroable_over, zeroables, zeroable}
 use Rattle.records.specs.Places.{type_from, types_from}
 use Rattle.records.proofs.Types.{count, placed}
-use Rattle.definition.proofs.Truth.{pick_for}
 use Rattle.zeroable.specs.Memo.{part_zeroable}
 
 -- the flags that are there stay
@@ -77,18 +75,3 @@ module _ (s types : List ℕ) (n i : ℕ) (room : n ≤ length types) (lt : i < 
   one =
       flag ts [] i i (type_from s 0) (rw (count s types n room) lt) (omega arith)
       ∙ ap (λ (t : TypeEntry). zeroable_over (part_zeroable ts i) t.inner) (placed s types n i room lt (type_from s 0))
-
-  -- the same, of the tag, the body and the name's end that the program has read
-  pub by_tag : (rest b : List ℕ) (t at : ℕ) → rest ≡ drop (get_or types i 0) s → b ≡ (record_at rest).body → t ≡ (record_at rest).tag → at ≡ name_end b 0
-      → zeroable ts i ≡ zeroable_over (part_zeroable ts i) (type_fields t b at).value
-  by_tag rest b t at er eb et ea = rw (ea, et, eb, er) one
-
--- no other type is zeroable
-pub no_zero : (part : ℕ → Bool) (t : ℕ) (b : List ℕ) (n : ℕ) → (t ≡ 16 → ⊥) → (t ≡ 17 → ⊥) → (t ≡ 18 → ⊥) → (t ≡ 19 → ⊥) → (t ≡ 22 → ⊥) → (t ≡ 23 → ⊥)
-    → zeroable_over part (type_fields t b n).value ≡ false
-unfolding type_fields
-no_zero part t b n h16 h17 h18 h19 h22 h23 =
-    let P : Fields TypeInner → Type 0 = λ f. zeroable_over part f.value ≡ false in
-    rw (ne_eqb t 16 h16, ne_eqb t 17 h17, ne_eqb t 18 h18, ne_eqb t 19 h19, ne_eqb t 22 h22, ne_eqb t 23 h23)
-    (pick_for P (eqb t 20) _ _ refl (pick_for P (eqb t 21) _ _ refl (pick_for P (eqb t 24) _ _ refl
-    (pick_for P (eqb t 25) _ _ refl (pick_for P (eqb t 26) _ _ refl (pick_for P (eqb t 27) _ _ refl refl))))))

@@ -1,7 +1,7 @@
 -- Which type entries are parts of one, and what the memo of the program says of them.
 use Rattle.std.specs.Prelude.{ℕ, ◌≤◌, ◌≡◌, Bool, true, false, ◌&&◌, List, ltb, length, get_or}
 use Rattle.definition.specs.Choice.{every}
-use Rattle.definition.specs.Sheet.{TypeEntry, members_at}
+use Rattle.definition.specs.Sheet.{TypeEntry, Member}
 use Rattle.definition.specs.Tests.{member_types}
 use Rattle.definition.specs.Zeroable.{zeroable}
 
@@ -9,9 +9,9 @@ use Rattle.definition.specs.Zeroable.{zeroable}
 abbrev pub part_zeroable : List TypeEntry → ℕ → ℕ → Bool
 part_zeroable ts i j = ltb j i && zeroable ts j
 
--- each of the k members of a struct from place p of its body on
-abbrev pub zero_members : List TypeEntry → ℕ → List ℕ → ℕ → ℕ → Bool
-zero_members ts i b p k = every (part_zeroable ts i) (member_types (members_at b p k))
+-- each of a struct's members
+abbrev pub zero_members : List TypeEntry → ℕ → List Member → Bool
+zero_members ts i ms = every (part_zeroable ts i) (member_types ms)
 
 abbrev pub memo_flag : Bool → ℕ
 memo_flag true = 1

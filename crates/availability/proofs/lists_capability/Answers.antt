@@ -1,23 +1,18 @@
-use mathlib.Core.Path.{◌∙◌, sym, refl}
-use native.Mathlib.Omega.{arith}
-use Rattle.availability.proofs.Laws.{starts, found, turn, ended}
+-- `any` asks of each word whether it is the number, as `among` does of the numbers that the definition reads (`listed`).
+use Rattle.std.proofs.Common.{rules, ◌∙◌, ap, ◌/◌, length, ℕ}
+use Rattle.std.proofs.lemmas.Iterator.{YieldsList-from_slice}
+use Rattle.std.proofs.lemmas.Iterator.Search.{any_from_yields_List}
+use Rattle.definition.specs.Bytes.{u32_at}
+use Rattle.definition.specs.Choice.{among}
+use Rattle.definition.specs.Sheet.{available_fields}
+use lib.Dec.{eqb}
+use Rattle.availability.proofs.Listed.{listed}
 use Rattle.availability.proofs.lists_capability.Goals as goal
 
-pub loop-left-init : goal.loop-left-init
-loop-left-init c = starts _ _ _ refl
-
-pub whole_u32_at-requires : goal.whole_u32_at-requires
-whole_u32_at-requires c = omega (arith, c.loop-left.invariant.inside, c.loop-left-test.true)
-
-pub returns-then-cap-whole_u32_at : goal.returns-then-cap-whole_u32_at
-returns-then-cap-whole_u32_at c =
-    let l = c.loop-left in
-    found _ _ l.invariant c.loop-left-test.true (c.if-cap-whole_u32_at.true ∙ c.whole_u32_at.ensures)
-
-pub loop-left-preserved : goal.loop-left-preserved
-loop-left-preserved c =
-    let l = c.loop-left in
-    turn _ _ l.invariant c.loop-left-test.true (λ e. c.if-cap-whole_u32_at.false (e ∙ sym c.whole_u32_at.ensures))
-
 pub returns : goal.returns
-returns c = ended _ _ c.loop-left.invariant c.loop-left-test.false
+unfolding available_fields
+returns c =
+    let number = c.word-number.result in
+    let by_call = any_from_yields_List (λ w. eqb number (u32_at w 0)) _ _ _ c.any.ensures.ran (YieldsList-from_slice c.as_chunks.result.0.now c.iter.ensures.rest) (λ x b q k. search rules) in
+    rw c.as_chunks.ensures.front at by_call ∙ listed number (length c.args.body.now / 4) c.args.body.now 0
+    ∙ ap (λ (x : ℕ). among x (available_fields c.args.body.now).value) c.word-number.ensures

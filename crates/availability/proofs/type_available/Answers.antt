@@ -4,8 +4,5 @@ use Rattle.lookup.specs.Local.{local_shape}
 use Rattle.availability.proofs.Laws.{as_flagged}
 use Rattle.availability.proofs.type_available.Goals as goal
 
-pub returns-in-Local : goal.returns-in-Local
-returns-in-Local c = λ o f b n. rw (← c.make_local.ensures b n, c.in-Local.is) (c.shape_available.ensures ∙ as_flagged o _ f (local_shape c.in-Local.l))
-
-pub returns-in-Aggregate : goal.returns-in-Aggregate
-returns-in-Aggregate c = λ o f b n. rw (← c.make_local.ensures b n, c.in-Aggregate.is)
+pub returns-in-Some : goal.returns-in-Some
+returns-in-Some c = λ o f b n. rw (← c.make_local.ensures b n, c.in-Some.is) (c.shape_available.ensures ∙ as_flagged o _ f (local_shape c.in-Some.l))

@@ -1,11 +1,6 @@
--- The invariant: the first i instructions stand at the front. The measure is how many numbers are left.
-use Prim.Native.Nat.{◌-◌}
-use lib.ListN.{length}
-use Rattle.module_layout.proofs.Capabilities.{Listing}
+-- The invariant: the instructions of the first numbers stand at the front, and end what is in use.
+use Rattle.module_layout.proofs.Capabilities.{Listed}
 use Rattle.module_layout.proofs.put_capabilities.Given as goal
 
-abbrev pub invariant-loop-i : goal.invariant-loop-i
-invariant-loop-i l = Listing l.numbers l.initial.out l.i l.out l.at
-
-abbrev pub decreases-loop-i : goal.decreases-loop-i
-decreases-loop-i l = length l.numbers - l.i
+abbrev pub invariant-loop-number : goal.invariant-loop-number
+invariant-loop-number l = Listed l.numbers l.initial.out l.number-index l.out l.at

@@ -1,13 +1,8 @@
--- A law of `Modules` for each answer: 15 (`passes`), 16 (`short`), the module (`written`).
+-- A law of `Modules` for each answer: 16 (`short`), the module (`written`).
 use mathlib.Core.Path.{refl}
 use native.Mathlib.Omega.{arith}
-use Rattle.module_layout.proofs.Modules.{passes, short, written}
+use Rattle.module_layout.proofs.Modules.{short, written}
 use Rattle.module_layout.proofs.write_module.Goals as goal
-
-pub returns-then-g-ge-BOUND_MOST : goal.returns-then-g-ge-BOUND_MOST
-returns-then-g-ge-BOUND_MOST c =
-    let a = c.args in
-    passes a.w a.sections.now a.out.now (omega (arith, c.if-g-ge-BOUND_MOST.true))
 
 pub returns-then-out-n : goal.returns-then-out-n
 returns-then-out-n c =

@@ -1,5 +1,5 @@
--- `put_bytes`. The invariant: the first i bytes stand behind the place (`copied` is a turn). The measure is how many are left.
-use Prim.Native.Nat.{◌-◌, ◌≤◌}
+-- `put_bytes`. The invariant: the first i bytes stand behind the place (`copied` is a turn).
+use Prim.Native.Nat.{◌≤◌}
 use mathlib.Core.Path.{◌≡◌}
 use lib.ListN.{length, take}
 use lib.Seq.{sets}
@@ -7,6 +7,3 @@ use Rattle.printing.proofs.put_bytes.Given as goal
 
 abbrev pub invariant-loop-i : goal.invariant-loop-i
 invariant-loop-i l = (l.i ≤ length l.bytes) × (length l.text ≡ length l.initial.text) × (l.text ≡ sets l.initial.text l.at (take l.i l.bytes))
-
-abbrev pub decreases-loop-i : goal.decreases-loop-i
-decreases-loop-i l = length l.bytes - l.i

@@ -1,5 +1,5 @@
 -- `put_digits`. The invariant: with the digits of the rest put as well, the text is what it is to be in the end (`one_digit` is a
--- turn). The measure is how many digits are left.
+-- turn).
 use Prim.Native.Nat.{◌≤◌}
 use mathlib.Core.Path.{◌≡◌}
 use lib.ListN.{length}
@@ -10,6 +10,3 @@ use Rattle.printing.proofs.put_digits.Given as goal
 abbrev pub invariant-loop-left : goal.invariant-loop-left
 invariant-loop-left l =
     (l.left ≤ l.k) × (length l.text ≡ length l.initial.text) × (sets l.text l.at (digits l.base l.left l.rest) ≡ sets l.initial.text l.at (digits l.base l.k l.n))
-
-abbrev pub decreases-loop-left : goal.decreases-loop-left
-decreases-loop-left l = l.left

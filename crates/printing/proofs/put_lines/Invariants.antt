@@ -1,6 +1,5 @@
--- `put_lines`. The invariant: the lines of the first i words stand at the front (`one_line` is a turn, `all_lines` the end). The
--- measure is how many words are left.
-use Prim.Native.Nat.{◌-◌, ◌≤◌}
+-- `put_lines`. The invariant: the lines of the first i words stand at the front (`one_line` is a turn, `all_lines` the end).
+use Prim.Native.Nat.{◌≤◌}
 use mathlib.Core.Path.{◌≡◌}
 use lib.ListN.{length, take}
 use lib.Seq.{sets}
@@ -9,6 +8,3 @@ use Rattle.printing.proofs.put_lines.Given as goal
 
 abbrev pub invariant-loop-i : goal.invariant-loop-i
 invariant-loop-i l = (l.i ≤ l.n) × (l.text ≡ sets l.initial.text 0 (lines_of (take l.i l.words))) × (length l.text ≡ length l.initial.text)
-
-abbrev pub decreases-loop-i : goal.decreases-loop-i
-decreases-loop-i l = l.n - l.i

@@ -11,6 +11,7 @@ use Rattle.writer.specs.Held.{Room}
 use Rattle.writer_constants.specs.Entered.{expression_cost, FewParts, ConstantWritten}
 use Rattle.writer_constants.specs.Fitting.{TestsConstant}
 use Rattle.writer_constants.proofs.Records.{few, roomy, written, is_taken}
+use Rattle.sheet_writer.proofs.Comes.{refused, written as comes}
 use Rattle.sheet_writer.proofs.write_constant.Goals as goal
 
 pub expression_fits-requires : goal.expression_fits-requires
@@ -26,10 +27,10 @@ returns-then-not-expression_fits c =
     let f = c.expression_fits in
     let q = is_taken a.n (record_of a.tag a.body.now) c.requires.1.0 c.expression_of-expr.result c.expression_of-expr.ensures in
     let t = subst (λ (x : Expression). TestsConstant (types_from a.s.now a.types.now a.n) x a.w a.tables.now f.result) q f.ensures.0 in
-    (record { told = λ S x h. stop _ _ 13 0 (t S x h) (ap not c.if-not-expression_fits.true); written = λ z. absurd (omega (arith, z)) }, f.ensures.1)
+    (refused _ _ _ (λ S x h. stop _ _ 13 0 (t S x h) (ap not c.if-not-expression_fits.true)), f.ensures.1)
 
-pub write_constant_expr-v-requires : goal.write_constant_expr-v-requires
-write_constant_expr-v-requires c =
+pub write_constant_expr-requires : goal.write_constant_expr-requires
+write_constant_expr-requires c =
     let a = c.args in
     let p = c.requires in
     let r = record_of a.tag a.body.now in
@@ -46,15 +47,12 @@ returns c =
     let a = c.args in
     let r = record_of a.tag a.body.now in
     let f = c.expression_fits in
-    let x = c.write_constant_expr-v in
+    let x = c.write_constant_expr in
     let ts = types_from a.s.now a.types.now a.n in
     let q = is_taken a.n r c.requires.1.0 c.expression_of-expr.result c.expression_of-expr.ensures in
     let t = subst (λ (y : Expression). TestsConstant ts y a.w a.tables.now f.result) q f.ensures.0 in (
-      record {
-        told = λ S y h. go _ _ 13 0 0 (t S y h) (ap not c.if-not-expression_fits.false) refl;
-        written = λ z.
-            written a.n r c.requires.1.0 ts a.w a.tables.now a.sections.now x.result x.new.tables x.new.sections
-            (subst (λ (y : Expression). ConstantWritten (expression_cost y) ts y a.w a.tables.now a.sections.now x.result x.new.tables x.new.sections) q x.ensures);
-      },
+      comes _ _ _ (λ S y h. go _ _ 13 0 0 (t S y h) (ap not c.if-not-expression_fits.false) refl)
+          (written a.n r c.requires.1.0 ts a.w a.tables.now a.sections.now x.result x.new.tables x.new.sections
+          (subst (λ (y : Expression). ConstantWritten (expression_cost y) ts y a.w a.tables.now a.sections.now x.result x.new.tables x.new.sections) q x.ensures)),
       f.ensures.1,
     )

@@ -8,4 +8,4 @@ use Rattle.writer.proofs.enter_null.Goals as goal
 
 pub returns : goal.returns
 returns c = let a = c.args in
-    subst (λ (t : List ℕ). EnteredNull a.ty a.id a.w a.tables.now (more_nulls a.w) t) (sym c.put_pair.ensures) (entered_null a.w a.tables.now a.ty a.id c.requires)
+    subst (λ (t : List ℕ). EnteredNull a.ty a.id a.w a.tables.now (more_nulls a.w) t) (sym c.put_row.ensures) (entered_null a.w a.tables.now a.ty a.id c.requires)

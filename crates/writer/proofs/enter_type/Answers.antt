@@ -8,4 +8,4 @@ use Rattle.writer.proofs.enter_type.Goals as goal
 
 pub returns : goal.returns
 returns c = let a = c.args in
-    subst (λ (t : List ℕ). EnteredType a.key a.id a.w a.tables.now (more_types a.w) t) (sym c.put_pair.ensures) (entered_type a.w a.tables.now a.key a.id c.requires)
+    subst (λ (t : List ℕ). EnteredType a.key a.id a.w a.tables.now (more_types a.w) t) (sym c.put_row.ensures) (entered_type a.w a.tables.now a.key a.id c.requires)

@@ -1,47 +1,26 @@
-use Rattle.writer.proofs.Search.{hit_pair, miss, miss1, miss2, miss3, miss4, ended}
-use Rattle.writer.specs.Rows.{pair}
-use Prim.Native.Nat.{◌+◌, ◌-◌}
-use mathlib.Core.Path.{refl, sym, ◌∙◌}
+-- The rows are cut out of the slice, and what `first` finds among them is what is found among the table's rows.
+use Rattle.std.proofs.Common.{rules}
+use Prim.Native.Nat.{ℕ, ◌*◌, ◌/◌, ◌+◌, ◌-◌}
+use mathlib.Core.Path.{◌≡◌, ap, ◌∙◌}
+use mathlib.Core.Bool.{Bool}
+use mathlib.Core.List.{List}
 use native.Mathlib.Omega.{arith}
+use lib.Dec.{eqb}
+use lib.ListN.{get_or, length, take, drop}
+use Rattle.std.specs.Prelude.{option_map}
+use Rattle.std.specs.List.{find}
+use Rattle.writer.specs.Rows.{pair}
+use Rattle.writer.proofs.Search.{finds_row, cut, and_all}
+use Rattle.writer.proofs.Parts.{lent, part_length}
 use Rattle.writer.proofs.seek_key.Goals as goal
 
-pub fours-init : goal.fours-init
-fours-init c = (refl, refl)
-
-pub returns-then-tables-p : goal.returns-then-tables-p
-returns-then-tables-p c = let a = c.args in let l = c.fours in let T = a.tables.now in
-    sym (l.invariant.1 ∙ hit_pair a.a T l.p l.left (l.p + 1) (omega arith) refl c.if-tables-p.true)
-
-pub returns-then-tables-p-2 : goal.returns-then-tables-p-2
-returns-then-tables-p-2 c = let a = c.args in let l = c.fours in let T = a.tables.now in
-    sym (l.invariant.1 ∙ miss1 pair a.a 0 T l.p l.left (omega arith) (λ z. c.if-tables-p.false)
-    ∙ hit_pair a.a T (l.p + 2) (l.left - 1) (l.p + 3) (omega arith) (omega arith) c.if-tables-p-2.true)
-
-pub returns-then-tables-p-3 : goal.returns-then-tables-p-3
-returns-then-tables-p-3 c = let a = c.args in let l = c.fours in let T = a.tables.now in
-    sym (l.invariant.1 ∙ miss2 pair a.a 0 T l.p l.left (omega arith) (λ z. c.if-tables-p.false) (λ z. c.if-tables-p-2.false)
-    ∙ hit_pair a.a T (l.p + 4) (l.left - 2) (l.p + 5) (omega arith) (omega arith) c.if-tables-p-3.true)
-
-pub returns-then-tables-p-4 : goal.returns-then-tables-p-4
-returns-then-tables-p-4 c = let a = c.args in let l = c.fours in let T = a.tables.now in
-    sym (l.invariant.1 ∙ miss3 pair a.a 0 T l.p l.left (omega arith) (λ z. c.if-tables-p.false) (λ z. c.if-tables-p-2.false) (λ z. c.if-tables-p-3.false)
-    ∙ hit_pair a.a T (l.p + 6) (l.left - 3) (l.p + 7) (omega arith) (omega arith) c.if-tables-p-4.true)
-
-pub fours-preserved : goal.fours-preserved
-fours-preserved c = let a = c.args in let l = c.fours in let T = a.tables.now in
-    (omega arith, l.invariant.1 ∙ miss4 pair a.a 0 T l.p l.left (omega arith) (λ z. c.if-tables-p.false) (λ z. c.if-tables-p-2.false) (λ z. c.if-tables-p-3.false) (λ z. c.if-tables-p-4.false))
-
-pub rest-init : goal.rest-init
-rest-init c = c.fours.invariant
-
-pub returns-then-tables-p-5 : goal.returns-then-tables-p-5
-returns-then-tables-p-5 c = let a = c.args in let l = c.rest in let T = a.tables.now in
-    sym (l.invariant.1 ∙ hit_pair a.a T l.p l.left (l.p + 1) (omega arith) refl c.if-tables-p-5.true)
-
-pub rest-preserved : goal.rest-preserved
-rest-preserved c = let a = c.args in let l = c.rest in let T = a.tables.now in
-    (omega arith, l.invariant.1 ∙ miss pair a.a 0 T l.p l.left (l.left - 1) (l.p + 2) (omega arith) refl (λ z. c.if-tables-p-5.false))
-
 pub returns : goal.returns
-returns c = let a = c.args in let l = c.rest in let T = a.tables.now in
-    sym (l.invariant.1 ∙ ended pair a.a 0 T l.p l.left (omega arith))
+returns c =
+    let a = c.args in
+    let T = a.tables.now in
+    let t : List ℕ → Bool = λ r. eqb (get_or r 0 0) a.a in
+    let f = c.first.ensures t (λ x b is. search rules) in
+    let m : c.map.result ≡ option_map (λ r. get_or r 1 0) (option_map (λ r. r.now) c.first.result) = search rules in
+    let l = ap length (lent T a.start (2 * a.n)) ∙ part_length T a.start (2 * a.n) (omega (arith, c.requires)) in
+    let rows = c.as_chunks.ensures.front ∙ cut pair T a.start a.n (length (take (a.start + 2 * a.n - a.start) (drop a.start T)) / 2) (omega (arith, l)) in
+    m ∙ ap (option_map (λ r. get_or r 1 0)) f ∙ ap (λ (rs : List (List ℕ)). option_map (λ r. get_or r 1 0) (find t rs)) rows ∙ finds_row pair a.a 0 t (λ r. and_all _) T a.start a.n

@@ -23,15 +23,15 @@ parts-wait T n w v g = let e : parts_at v + v.parts ≡ parts_at w + w.parts = o
 pub enter_composite-u-requires : goal.enter_composite-u-requires
 enter_composite-u-requires c = omega (arith, c.requires.1.rows, c.take_id-m.ensures.grown, c.declare_function-v.ensures.grown)
 
-pub returns-in-Id : goal.returns-in-Id
-returns-in-Id c =
+pub returns-in-Some : goal.returns-in-Some
+returns-in-Some c =
     let a = c.args in
     let x = c.find_composite in
     let xs = part a.tables.now (parts_at a.w + a.w.parts) a.n in
-    shared_old (function xs) tt (λ i. type_function i xs) 13 a.n refl a.w a.tables.now a.sections.now refl x.result x.ensures (signature_cost a.n) c.in-Id.id c.in-Id.is
+    shared_old (function xs) tt (λ i. type_function i xs) 13 a.n refl a.w a.tables.now a.sections.now refl x.result x.ensures (signature_cost a.n) c.in-Some.id c.in-Some.is
 
-pub returns-in-Absent : goal.returns-in-Absent
-returns-in-Absent c =
+pub returns-in-None : goal.returns-in-None
+returns-in-None c =
     let a = c.args in
     let x = c.find_composite in
     let m = c.take_id-m in
@@ -39,5 +39,5 @@ returns-in-Absent c =
     let u = c.enter_composite-u in
     let xs = part a.tables.now (parts_at a.w + a.w.parts) a.n in
     let same = parts-wait a.tables.now a.n a.w m.result.writer m.ensures.grown in
-    shared_new (function xs) tt (λ i. type_function i xs) 13 a.n refl a.w a.tables.now a.sections.now refl x.result x.ensures c.in-Absent.is
+    shared_new (function xs) tt (λ i. type_function i xs) 13 a.n refl a.w a.tables.now a.sections.now refl x.result x.ensures c.in-None.is
     m.result m.ensures (a.n + 2) d.result d.new.sections (subst (λ (ys : List ℕ). Puts declarations (a.n + 2) (type_function m.result.id ys) m.result.writer a.sections.now d.result d.new.sections) same d.ensures) u.result u.new.tables u.ensures

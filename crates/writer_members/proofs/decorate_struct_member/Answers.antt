@@ -1,6 +1,5 @@
 -- The Offset, the name and the stride, in the definition's order.
 use native.Mathlib.Omega.{arith}
-use Rattle.type_facts.specs.Facets.{number_of}
 use Rattle.writer_members.proofs.Members.{member}
 use Rattle.writer_members.proofs.decorate_struct_member.Goals as goal
 
@@ -11,4 +10,4 @@ stride_member-requires c = let m = c.member_decorate-a in
 
 pub returns : goal.returns
 returns c = let a = c.args in
-    member a.id a.index a.offset a.named a.name.now (number_of a.stride) c.member_decorate-a.ensures c.name_member-v.ensures c.stride_member.ensures
+    member a.id a.index a.offset a.named a.name.now a.stride c.member_decorate-a.ensures c.name_member-v.ensures c.stride_member.ensures

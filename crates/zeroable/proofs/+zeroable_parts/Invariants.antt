@@ -1,7 +1,7 @@
 -- The index falls from a type to its parts; in between, four calls go down from the flag to the entry, its members and a part.
 -- The loop over the members keeps the memo right, and that the members which are left answer as all do.
-use Rattle.std.proofs.Common.{◌≡◌, ◌+◌, ◌*◌, ◌≤◌, length}
-use Rattle.definition.specs.Bytes.{u8_at}
+use Rattle.std.proofs.Common.{◌≡◌, ◌+◌, ◌*◌}
+use Rattle.members.specs.Walk.{members_left}
 use Rattle.records.specs.Places.{types_from}
 use Rattle.zeroable.specs.Memo.{Memo, zero_members}
 use Rattle.zeroable.proofs.+zeroable_parts.Given as goal
@@ -18,11 +18,7 @@ decreases-zero_members l = 4 * l.i + 1
 abbrev pub decreases-zero_part : goal.decreases-zero_part
 decreases-zero_part l = 4 * l.i
 
-abbrev pub invariant-zero_members-loop-k : goal.invariant-zero_members-loop-k
-invariant-zero_members-loop-k l =
+abbrev pub invariant-zero_members-loop-m : goal.invariant-zero_members-loop-m
+invariant-zero_members-loop-m l =
     let ts = types_from l.s l.types l.n in
-    (length l.memo ≡ length l.initial.memo) × ((l.p + 300 * l.k ≤ 80000) × (Memo ts l.memo
-    × (zero_members ts l.i l.b (l.at + 5) (u8_at l.b (l.at + 4)) ≡ zero_members ts l.i l.b l.p l.k)))
-
-abbrev pub decreases-zero_members-loop-k : goal.decreases-zero_members-loop-k
-decreases-zero_members-loop-k l = l.k
+    Memo ts l.memo × (zero_members ts l.i (members_left l.fn.members) ≡ zero_members ts l.i (members_left l.m-iterator))

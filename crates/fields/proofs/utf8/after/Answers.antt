@@ -1,20 +1,11 @@
--- `fields::utf8::after`: one law of the ranges for each way out: none was left, the byte is below the first range, above
--- it, or within it.
-use mathlib.Core.Path.{ap, sym, ◌∙◌}
-use Rattle.fields.specs.Pending.{next_of}
-use Rattle.fields.proofs.Octets.{leads, too_low, too_high, fitting}
+-- `fields::utf8::after`: a byte within the first range leaves tails to come, one fewer than were left.
+use Rattle.std.proofs.Common.{arith, ◌≤◌}
+use Rattle.std.proofs.lemmas.Grind.{common_steps}
+use Rattle.fields.proofs.Octets.{fitting}
 use Rattle.fields.proofs.utf8.after.Goals as goal
 
-pub returns-then-p-eq0 : goal.returns-then-p-eq0
-returns-then-p-eq0 c = c.lead.ensures ∙ sym (leads _ _ _ _ c.if-p-eq0.true)
-
-pub returns-then-b-p : goal.returns-then-b-p
-returns-then-b-p c = too_low _ _ _ _ c.if-p-eq0.false c.if-b-p.true
-
-pub returns-then-p-b : goal.returns-then-p-b
-returns-then-p-b c = too_high _ _ _ _ c.if-p-eq0.false c.if-p-b.true
-
-pub returns : goal.returns
-returns c =
-    ap next_of c.wants.ensures
-    ∙ fitting _ _ _ _ c.if-p-eq0.false c.if-b-p.false c.if-p-b.false
+pub returns-then-contains : goal.returns-then-contains
+returns-then-contains c =
+    let low : c.args.p.low ≤ c.args.b = grind (arith, common_steps) in
+    let high : c.args.b ≤ c.args.p.high = grind (arith, common_steps) in
+    fitting _ _ _ _ c.if-p-eq0.false low high

@@ -3,4 +3,4 @@ use Rattle.std.proofs.Common.{◌≤◌, length}
 use Rattle.printing.proofs.streams.read_all.Given as goal
 
 abbrev pub invariant-loop : goal.invariant-loop
-invariant-loop g l = l.input.held ≤ length l.buffer
+invariant-loop g l = l.held ≤ length l.buffer

@@ -1,6 +1,5 @@
--- The invariant: none was found, and what is left of the entries answers for all of them. A group or a binding that differs makes an entry another, and
+-- None was found, and what is left of the entries answers for all of them. A group or a binding that differs makes an entry another, and
 -- the loop goes on; where neither differs, the entry is the one that was looked for.
-use Prim.Native.Nat.{◌-◌, ◌≤◌}
 use mathlib.Core.Bool.{false}
 use mathlib.Core.List.{map}
 use mathlib.Core.Path.{◌≡◌}
@@ -11,7 +10,4 @@ use Rattle.records.specs.Places.{remap_from}
 use Rattle.sheet.proofs.repeats.remap_read.Given as goal
 
 abbrev pub invariant-entries : goal.invariant-entries
-invariant-entries l = (l.k ≤ l.n) × ((l.read ≡ false) × (remap_read (remap_fields l.b).value (map (remap_from l.s) (take l.n l.remaps)) ≡ remap_read (remap_fields l.b).value (map (remap_from l.s) (drop l.k (take l.n l.remaps)))))
-
-abbrev pub decreases-entries : goal.decreases-entries
-decreases-entries l = l.n - l.k
+invariant-entries l = (l.read ≡ false) × (remap_read (remap_fields l.b).value (map (remap_from l.s) (take l.n l.remaps)) ≡ remap_read (remap_fields l.b).value (map (remap_from l.s) (drop l.place-index (take l.n l.remaps))))

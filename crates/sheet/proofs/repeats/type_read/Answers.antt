@@ -1,84 +1,72 @@
 use Prim.Native.Nat.{ℕ, ◌+◌, ◌≤◌, ◌<◌}
 use mathlib.Core.List.{List, map}
 use mathlib.Core.Bool.{false}
-use mathlib.Core.Path.{◌≡◌, refl, ap, sym, ◌∙◌}
+use mathlib.Core.Path.{◌≡◌, ap, sym, ◌∙◌}
 use native.Mathlib.Omega.{arith}
-use borrow.Author.Rules.{rules}
 use lib.ListN.{length, get_or, take, drop}
-use Rattle.definition.specs.Tests.{type_read, same_bytes, same_record}
+use borrow.Author.Rules.{rules}
+use Rattle.definition.specs.Tests.{type_read, same_record}
 use Rattle.definition.specs.Sheet.{Record, record_at}
 use Rattle.records.specs.Places.{type_from, record_from}
 use Rattle.sheet_fields.specs.Fields.{record_of}
-use Rattle.sheet.proofs.Comparing.{other_length, part_differs, shorter, whole}
 use Rattle.sheet.proofs.Earlier.{skip, skip_to, hit, none_left, types as search-types, other_tag, other_body, same}
 use Rattle.sheet.proofs.Hashes.{other_hash}
-use Rattle.sheet.specs.Hash.{hash_of, Hashed}
+use Rattle.sheet.specs.Hash.{hash_of, Hashed, Unlike}
 use Rattle.sheet.proofs.repeats.type_read.Goals as goal
 
--- another entry is passed over
-skips : (s places : List ℕ) (r : Record) (n i : ℕ) → 256 + n ≤ length places → i < n
-    → type_read r (map (type_from s) (take n places)) ≡ type_read r (map (type_from s) (drop i (take n places)))
-    → same_record (record_from s (get_or places i 0)) r ≡ false
-    → type_read r (map (type_from s) (take n places)) ≡ type_read r (map (type_from s) (drop (i + 1) (take n places)))
-skips s places r n i room lt e d = e ∙ skip (search-types s r) places n i (omega arith) lt d
+-- a type of another body is another
+other : (rest place e : List ℕ) (r : Record) → e ≡ (record_at rest).body → rest ≡ place → (e ≡ r.body → ⊥) → same_record (record_at place) r ≡ false
+other rest place e r q k d = other_body _ _ (λ z. d (q ∙ ap (λ x. (record_at x).body) k ∙ z))
 
--- an entry with another hash is another
-unlike : (s places : List ℕ) (r : Record) (n hash : ℕ) → Hashed s places n → hash ≡ hash_of r → (j : ℕ) → j < n
-    → (get_or places (256 + j) 0 ≡ hash → ⊥) → same_record (record_from s (get_or places j 0)) r ≡ false
-unlike s places r n hash hs e j h d = other_hash _ r (λ q. d (hs j h ∙ q ∙ sym e))
+-- those from `from` to i, whose hashes are others, are passed over, and then type i
+module _ (s places : List ℕ) (r : Record) (n hash from i : ℕ) (asked : (256 + n ≤ length places) × (Hashed s places n × (hash ≡ hash_of r))) (at : from ≤ i) where
+  reached : i ≤ n → Unlike places hash from i
+      → type_read r (map (type_from s) (take n places)) ≡ type_read r (map (type_from s) (drop from (take n places)))
+      → type_read r (map (type_from s) (take n places)) ≡ type_read r (map (type_from s) (drop i (take n places)))
+  reached le u e = e ∙ skip_to (search-types s r) places n from i (omega (arith, asked.0)) at le (λ j lo hi. other_hash _ r (λ q. u j lo hi (asked.1.0 j (omega (arith, lo, hi)) ∙ q ∙ sym asked.1.1)))
 
--- and one with another body
-other : (rest place e : List ℕ) (r : Record) → e ≡ (record_at rest).body → rest ≡ place → same_bytes e r.body ≡ false → same_record (record_at place) r ≡ false
-other rest place e r q k d = other_body _ _ (ap (λ (z : List ℕ). same_bytes z r.body) (sym (q ∙ ap (λ x. (record_at x).body) k)) ∙ d)
-
-pub entries-init : goal.entries-init
-entries-init c = (search rules, (refl, refl))
-
-pub entries-preserved-then-its_hash-hash : goal.entries-preserved-then-its_hash-hash
-entries-preserved-then-its_hash-hash c = let r = c.next_alike-i.result in (
-  c.next_alike-i.ensures.1.0,
-  (
-    c.entries.invariant.1.0,
-    skips c.args.s.now c.args.types.now (record_of c.args.t c.args.b.now) c.args.n c.entries.i c.requires.0 c.entries-test.true c.entries.invariant.1.1 (unlike c.args.s.now c.args.types.now (record_of c.args.t c.args.b.now) c.args.n c.args.hash c.requires.1.0 c.requires.1.1 c.entries.i c.entries-test.true c.if-its_hash-hash.true)
-        ∙ skip_to (search-types c.args.s.now (record_of c.args.t c.args.b.now)) c.args.types.now c.args.n (c.entries.i + 1) r (omega (arith, c.requires.0)) c.next_alike-i.ensures.0 c.next_alike-i.ensures.1.0 (λ j lo hi. unlike c.args.s.now c.args.types.now (record_of c.args.t c.args.b.now) c.args.n c.args.hash c.requires.1.0 c.requires.1.1 j (omega (arith, c.next_alike-i.ensures.1.0)) (c.next_alike-i.ensures.1.1 j lo hi)),
-  ),
-)
-
-pub overflow_cast-place : goal.overflow_cast-place
-overflow_cast-place c = omega (arith, c.type_inv.types c.entries.i)
+  passed : (i < n) × Unlike places hash from i
+      → type_read r (map (type_from s) (take n places)) ≡ type_read r (map (type_from s) (drop from (take n places)))
+      → same_record (record_from s (get_or places i 0)) r ≡ false
+      → type_read r (map (type_from s) (take n places)) ≡ type_read r (map (type_from s) (drop (i + 1) (take n places)))
+  passed f e d = reached (omega (arith, f.0)) f.1 e ∙ skip (search-types s r) places n i (omega (arith, asked.0)) f.0 d
 
 pub entries-preserved-then-tag_of-t : goal.entries-preserved-then-tag_of-t
-entries-preserved-then-tag_of-t c = (search rules, (c.entries.invariant.1.0, skips c.args.s.now c.args.types.now (record_of c.args.t c.args.b.now) c.args.n c.entries.i c.requires.0 c.entries-test.true c.entries.invariant.1.1 (other_tag _ _ (λ q. c.if-tag_of-t.true (c.tag_of.ensures ∙ ap (λ r. (record_at r).tag) c.rest_at-rest.ensures ∙ q)))))
-
-pub entries-preserved-then-e-b : goal.entries-preserved-then-e-b
-entries-preserved-then-e-b c = (search rules, (c.entries.invariant.1.0, skips c.args.s.now c.args.types.now (record_of c.args.t c.args.b.now) c.args.n c.entries.i c.requires.0 c.entries-test.true c.entries.invariant.1.1 (other _ _ _ (record_of c.args.t c.args.b.now) c.body_of-e.ensures c.rest_at-rest.ensures (other_length _ _ c.if-e-b.true))))
-
-pub same_up_to-requires : goal.same_up_to-requires
-unfolding same_bytes
-same_up_to-requires c = (omega (arith, c.if-e-b.false), (omega arith, refl))
-
-pub entries-preserved-then-not-same_up_to : goal.entries-preserved-then-not-same_up_to
-entries-preserved-then-not-same_up_to c = (search rules, (c.entries.invariant.1.0, skips c.args.s.now c.args.types.now (record_of c.args.t c.args.b.now) c.args.n c.entries.i c.requires.0 c.entries-test.true c.entries.invariant.1.1 (other _ _ _ (record_of c.args.t c.args.b.now) c.body_of-e.ensures c.rest_at-rest.ensures (part_differs _ _ (length c.args.b.now) (sym c.same_up_to.ensures ∙ c.if-not-same_up_to.true)))))
-
-pub loop-p-init : goal.loop-p-init
-loop-p-init c = (c.fixed_end-fixed.ensures, (c.if-e-b.false, shorter _ _ _ _ c.fixed_end-fixed.ensures (sym c.same_up_to.ensures ∙ c.if-not-same_up_to.false)))
-
-pub same_up_to-requires-in-loop-p : goal.same_up_to-requires-in-loop-p
-same_up_to-requires-in-loop-p c = (omega (arith, c.member_end-next.ensures.1, c.loop-p.invariant.1.0), (c.member_end-next.ensures.1, c.loop-p.invariant.1.1))
-
-pub entries-preserved : goal.entries-preserved
-entries-preserved c = (search rules, (c.entries.invariant.1.0, skips c.args.s.now c.args.types.now (record_of c.args.t c.args.b.now) c.args.n c.entries.i c.requires.0 c.entries-test.true c.entries.invariant.1.1 (other _ _ _ (record_of c.args.t c.args.b.now) c.body_of-e.ensures c.rest_at-rest.ensures (part_differs _ _ c.member_end-next.result (sym c.same_up_to-in-loop-p.ensures ∙ c.if-not-same_up_to-2.true)))))
-
-pub loop-p-preserved : goal.loop-p-preserved
-loop-p-preserved c = (c.member_end-next.ensures.1, (c.loop-p.invariant.1.0, sym c.same_up_to-in-loop-p.ensures ∙ c.if-not-same_up_to-2.false))
-
-pub returns-after-entries : goal.returns-after-entries
-returns-after-entries c =
+entries-preserved-then-tag_of-t c =
     let a = c.args in
-    c.entries.invariant.1.0 ∙ sym (c.entries.invariant.1.1 ∙ none_left (search-types a.s.now (record_of a.t a.b.now)) a.types.now a.n c.entries.i (omega (arith, c.requires.0)) c.entries-test.false)
+    let f = c.in-Some.ensures in (
+      omega (arith, f.1.0),
+      (
+        c.entries.invariant.1.0,
+        passed a.s.now a.types.now (record_of a.t a.b.now) a.n a.hash c.entries.from c.in-Some.i c.requires f.0 f.1 c.entries.invariant.1.1
+            (other_tag _ _ (λ q. c.if-tag_of-t.true (c.tag_of.ensures ∙ ap (λ r. (record_at r).tag) c.rest_at-rest.ensures ∙ q))),
+      ),
+    )
+
+pub returns-in_default : goal.returns-in_default
+returns-in_default c =
+    let a = c.args in
+    let d = search-types a.s.now (record_of a.t a.b.now) in
+    c.entries.invariant.1.0 ∙ sym (reached a.s.now a.types.now (record_of a.t a.b.now) a.n a.hash c.entries.from a.n c.requires c.entries.invariant.0 (omega arith) c.in_default.ensures c.entries.invariant.1.1
+    ∙ none_left d a.types.now a.n a.n (omega (arith, c.requires.0)) (omega arith))
+
+pub entries-preserved-then-ne : goal.entries-preserved-then-ne
+entries-preserved-then-ne c =
+    let a = c.args in
+    let f = c.in-Some.ensures in (
+      omega (arith, f.1.0),
+      (
+        c.entries.invariant.1.0,
+        passed a.s.now a.types.now (record_of a.t a.b.now) a.n a.hash c.entries.from c.in-Some.i c.requires f.0 f.1 c.entries.invariant.1.1
+            (other _ _ _ (record_of a.t a.b.now) c.body_of-e.ensures c.rest_at-rest.ensures (search rules)),
+      ),
+    )
 
 pub returns-after-loop-p : goal.returns-after-loop-p
 returns-after-loop-p c =
-    sym (c.entries.invariant.1.1 ∙ hit (search-types c.args.s.now (record_of c.args.t c.args.b.now)) c.args.types.now c.args.n c.entries.i (omega (arith, c.requires.0)) c.entries-test.true
-    (same _ (record_of c.args.t c.args.b.now) (sym (c.tag_of.ensures ∙ ap (λ r. (record_at r).tag) c.rest_at-rest.ensures) ∙ c.if-tag_of-t.false)
-    (ap (λ (z : List ℕ). same_bytes z c.args.b.now) (sym (c.body_of-e.ensures ∙ ap (λ r. (record_at r).body) c.rest_at-rest.ensures)) ∙ sym (whole _ _ c.loop-p.p (omega (arith, c.loop-p-test.false, c.loop-p.invariant.1.0)) c.loop-p-test.false) ∙ c.loop-p.invariant.1.1)))
+    let a = c.args in
+    let f = c.in-Some.ensures in
+    sym (reached a.s.now a.types.now (record_of a.t a.b.now) a.n a.hash c.entries.from c.in-Some.i c.requires f.0 (omega (arith, f.1.0)) f.1.1 c.entries.invariant.1.1
+    ∙ hit (search-types a.s.now (record_of a.t a.b.now)) a.types.now a.n c.in-Some.i (omega (arith, c.requires.0)) f.1.0
+    (same _ (record_of a.t a.b.now) (sym (c.tag_of.ensures ∙ ap (λ r. (record_at r).tag) c.rest_at-rest.ensures) ∙ c.if-tag_of-t.false)
+    (sym (c.body_of-e.ensures ∙ ap (λ r. (record_at r).body) c.rest_at-rest.ensures) ∙ (search rules))))

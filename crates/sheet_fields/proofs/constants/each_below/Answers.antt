@@ -1,27 +1,15 @@
-use mathlib.Core.Path.{refl, ◌∙◌, sym}
-use borrow.Author.Tests.{lt-ltb, le-ltb}
-use borrow.Author.Rules.{rules}
+-- `all` asks of each index what the definition asks of the number there.
+use Rattle.std.proofs.Common.{◌+◌, ◌*◌, refl, ◌∙◌, rules, arith}
+use Rattle.std.proofs.lemmas.Iterator.{YieldsList-from_range}
+use Rattle.std.proofs.lemmas.Iterator.Search.{all_from_yields_List}
+use borrow.Author.Tests.{tests}
 use lib.Dec.{ltb}
-use Rattle.sheet_fields.proofs.Each.{each_yes, each_no, each_end, numbers}
+use Rattle.definition.specs.Bytes.{u16_at}
+use Rattle.sheet_fields.proofs.Each.{numbers}
 use Rattle.sheet_fields.proofs.constants.each_below.Goals as goal
-
-pub loop-k-init : goal.loop-k-init
-loop-k-init c = (search rules, refl)
-
-pub returns-then-most-u16_at : goal.returns-then-most-u16_at
-returns-then-most-u16_at c =
-    let a = c.args in
-    let l = c.loop-k in
-    sym (l.invariant.1 ∙ each_no (numbers a.b.now (λ x. ltb x a.most)) l.p l.k c.loop-k-test.true (simp (← c.u16_at.ensures) (le-ltb _ _ c.if-most-u16_at.true)))
-
-pub loop-k-preserved : goal.loop-k-preserved
-loop-k-preserved c =
-    let a = c.args in
-    let l = c.loop-k in
-    (search rules, l.invariant.1 ∙ each_yes (numbers a.b.now (λ x. ltb x a.most)) l.p l.k c.loop-k-test.true (simp (← c.u16_at.ensures) (lt-ltb _ _ c.if-most-u16_at.false)))
 
 pub returns : goal.returns
 returns c =
     let a = c.args in
-    let l = c.loop-k in
-    sym (l.invariant.1 ∙ each_end (numbers a.b.now (λ x. ltb x a.most)) l.p l.k c.loop-k-test.false)
+    all_from_yields_List (λ i. ltb (u16_at a.b.now (a.first + 2 * i)) a.most) c.all.new.self _ _ c.all.ensures.ran (YieldsList-from_range 0 a.n a.n refl (omega arith)) (λ x b q k. search (rules, tests))
+    ∙ numbers (λ t. ltb t a.most) a.b.now a.first a.n

@@ -7,6 +7,6 @@ use Rattle.spirv.proofs.Heads.{as_plain}
 use Rattle.spirv.proofs.layout.put_plain.Goals as goal
 
 pub returns : goal.returns
-returns c =
+returns g c =
     let a = c.args in
-    as_plain a.op a.operands.now (length a.operands.now + 1) refl c.put_head.ensures
+    as_plain (g.O.Word.as_word a.op) a.operands.now (length a.operands.now + 1) refl c.put_head.ensures

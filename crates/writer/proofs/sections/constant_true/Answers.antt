@@ -1,17 +1,16 @@
--- The ids are taken as words, and the words go behind the declarations in use.
+-- The closure puts the instruction's words, the ids taken as words.
+use Rattle.std.proofs.Common.{rules}
+use mathlib.Core.Path.{refl}
+use Rattle.definition.specs.Instructions.{words, constant_true}
+use Rattle.spirv.specs.Ids.{low}
 use Rattle.writer.specs.Regions.{declarations}
-use Rattle.writer.proofs.Spelt.{put_few, put_one, is_true}
-use native.Mathlib.Omega.{arith}
+use Rattle.writer.proofs.Spelt.{is_true, room_for}
 use Rattle.writer.proofs.sections.constant_true.Goals as goal
 
-pub overflow_add-w : goal.overflow_add-w
-overflow_add-w c =
-    let a = c.args in
-    let k = is_true a.ty a.id c.low_word.ensures c.low_word-2.ensures in
-    omega (arith, c.well_formed, c.requires, put_few declarations k c.requires c.constant_true-n.ensures)
+pub declare-requires-clause-room : goal.declare-requires-clause-room
+declare-requires-clause-room c = let a = c.args in
+    (words (constant_true (low a.ty) (low a.id)), (λ s n t k. search rules), room_for declarations (is_true a.ty a.id refl refl) c.requires)
 
 pub returns : goal.returns
-returns c =
-    let a = c.args in
-    let k = is_true a.ty a.id c.low_word.ensures c.low_word-2.ensures in
-    put_one declarations k c.requires c.constant_true-n.ensures tt
+returns c = let a = c.args in
+    c.declare.ensures (constant_true a.ty a.id) (3) (words (constant_true (low a.ty) (low a.id))) (λ s n t k. search rules) (is_true a.ty a.id refl refl) c.requires

@@ -1,18 +1,19 @@
--- The operands are words, so only the id is taken as one; what is not Block is noted nowhere else.
-use Rattle.writer.specs.Regions.{annotations}
-use Rattle.writer.proofs.Spelt.{put_few, put_one, decorates}
+-- The closure puts the instruction's words, the ids taken as words.
+use Rattle.std.proofs.Common.{rules}
 use mathlib.Core.Path.{refl}
+use lib.ListN.{length}
+use Prim.Native.Nat.{◌+◌}
 use native.Mathlib.Omega.{arith}
+use Rattle.definition.specs.Instructions.{words, decorate}
+use Rattle.spirv.specs.Ids.{low}
+use Rattle.writer.specs.Regions.{annotations}
+use Rattle.writer.proofs.Spelt.{decorates, room_for}
 use Rattle.writer.proofs.sections.decorate.Goals as goal
 
-pub overflow_add-w : goal.overflow_add-w
-overflow_add-w c =
-    let a = c.args in
-    let k = decorates a.target a.decoration a.operands.now c.low_word-t.ensures (omega (arith, c.ranges)) c.requires.0 (λ i. omega (arith, c.type_inv.operands i)) in
-    omega (arith, c.well_formed, c.requires.1, put_few annotations k c.requires.1 c.decorate-n.ensures)
+pub annotate-requires-clause-room : goal.annotate-requires-clause-room
+annotate-requires-clause-room c = let a = c.args in
+    (words (decorate (low a.target) a.decoration a.operands.now), (λ s n t k. search rules), room_for annotations (decorates a.target a.decoration a.operands.now refl (omega (arith, c.ranges)) c.requires.0 (λ i. omega (arith, c.type_inv.operands i))) c.requires.1)
 
 pub returns : goal.returns
-returns c =
-    let a = c.args in
-    let k = decorates a.target a.decoration a.operands.now c.low_word-t.ensures (omega (arith, c.ranges)) c.requires.0 (λ i. omega (arith, c.type_inv.operands i)) in
-    put_one annotations k c.requires.1 c.decorate-n.ensures (rw c.requires.2 refl)
+returns c = let a = c.args in
+    c.annotate.ensures (decorate a.target a.decoration a.operands.now) (length a.operands.now + 3) (words (decorate (low a.target) a.decoration a.operands.now)) (λ s n t k. search rules) (decorates a.target a.decoration a.operands.now refl (omega (arith, c.ranges)) c.requires.0 (λ i. omega (arith, c.type_inv.operands i))) (rw c.requires.2 refl) c.requires.1

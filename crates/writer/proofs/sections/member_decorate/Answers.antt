@@ -1,18 +1,19 @@
--- The operands are words, so only the id is taken as one.
-use Rattle.writer.specs.Regions.{annotations}
-use Rattle.writer.proofs.Spelt.{put_few, put_one, decorates_member}
+-- The closure puts the instruction's words, the ids taken as words.
+use Rattle.std.proofs.Common.{rules}
 use mathlib.Core.Path.{refl}
+use lib.ListN.{length}
+use Prim.Native.Nat.{◌+◌}
 use native.Mathlib.Omega.{arith}
+use Rattle.definition.specs.Instructions.{words, member_decorate}
+use Rattle.spirv.specs.Ids.{low}
+use Rattle.writer.specs.Regions.{annotations}
+use Rattle.writer.proofs.Spelt.{decorates_member, room_for}
 use Rattle.writer.proofs.sections.member_decorate.Goals as goal
 
-pub overflow_add-w : goal.overflow_add-w
-overflow_add-w c =
-    let a = c.args in
-    let k = decorates_member a.target a.member a.decoration a.operands.now c.low_word-t.ensures (omega (arith, c.ranges)) (omega (arith, c.ranges)) c.requires.0 (λ i. omega (arith, c.type_inv.operands i)) in
-    omega (arith, c.well_formed, c.requires.1, put_few annotations k c.requires.1 c.member_decorate-n.ensures)
+pub annotate-requires-clause-room : goal.annotate-requires-clause-room
+annotate-requires-clause-room c = let a = c.args in
+    (words (member_decorate (low a.target) a.member a.decoration a.operands.now), (λ s n t k. search rules), room_for annotations (decorates_member a.target a.member a.decoration a.operands.now refl (omega (arith, c.ranges)) (omega (arith, c.ranges)) c.requires.0 (λ i. omega (arith, c.type_inv.operands i))) c.requires.1)
 
 pub returns : goal.returns
-returns c =
-    let a = c.args in
-    let k = decorates_member a.target a.member a.decoration a.operands.now c.low_word-t.ensures (omega (arith, c.ranges)) (omega (arith, c.ranges)) c.requires.0 (λ i. omega (arith, c.type_inv.operands i)) in
-    put_one annotations k c.requires.1 c.member_decorate-n.ensures refl
+returns c = let a = c.args in
+    c.annotate.ensures (member_decorate a.target a.member a.decoration a.operands.now) (length a.operands.now + 4) (words (member_decorate (low a.target) a.member a.decoration a.operands.now)) (λ s n t k. search rules) (decorates_member a.target a.member a.decoration a.operands.now refl (omega (arith, c.ranges)) (omega (arith, c.ranges)) c.requires.0 (λ i. omega (arith, c.type_inv.operands i))) refl c.requires.1

@@ -1,17 +1,17 @@
--- The ids are taken as words, and the words go behind the declarations in use.
-use Rattle.writer.specs.Regions.{declarations}
-use Rattle.writer.proofs.Spelt.{put_few, put_one, pointer}
+-- The closure puts the instruction's words, the ids taken as words.
+use Rattle.std.proofs.Common.{rules}
+use mathlib.Core.Path.{refl}
 use native.Mathlib.Omega.{arith}
+use Rattle.definition.specs.Instructions.{words, type_pointer}
+use Rattle.spirv.specs.Ids.{low}
+use Rattle.writer.specs.Regions.{declarations}
+use Rattle.writer.proofs.Spelt.{pointer, room_for}
 use Rattle.writer.proofs.sections.type_pointer.Goals as goal
 
-pub overflow_add-w : goal.overflow_add-w
-overflow_add-w c =
-    let a = c.args in
-    let k = pointer a.id a.class a.base c.low_word.ensures (omega (arith, c.ranges)) c.low_word-2.ensures in
-    omega (arith, c.well_formed, c.requires, put_few declarations k c.requires c.type_pointer-n.ensures)
+pub declare-requires-clause-room : goal.declare-requires-clause-room
+declare-requires-clause-room c = let a = c.args in
+    (words (type_pointer (low a.id) a.class (low a.base)), (λ s n t k. search rules), room_for declarations (pointer a.id a.class a.base refl (omega (arith, c.ranges)) refl) c.requires)
 
 pub returns : goal.returns
-returns c =
-    let a = c.args in
-    let k = pointer a.id a.class a.base c.low_word.ensures (omega (arith, c.ranges)) c.low_word-2.ensures in
-    put_one declarations k c.requires c.type_pointer-n.ensures tt
+returns c = let a = c.args in
+    c.declare.ensures (type_pointer a.id a.class a.base) (4) (words (type_pointer (low a.id) a.class (low a.base))) (λ s n t k. search rules) (pointer a.id a.class a.base refl (omega (arith, c.ranges)) refl) c.requires

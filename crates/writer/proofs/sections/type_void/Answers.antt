@@ -1,11 +1,16 @@
--- The id is taken as a word, and the words go behind the declarations in use.
+-- The closure puts the instruction's words, the ids taken as words.
+use Rattle.std.proofs.Common.{rules}
+use mathlib.Core.Path.{refl}
+use Rattle.definition.specs.Instructions.{words, type_void}
+use Rattle.spirv.specs.Ids.{low}
 use Rattle.writer.specs.Regions.{declarations}
-use Rattle.writer.proofs.Spelt.{put_few, put_one, void}
-use native.Mathlib.Omega.{arith}
+use Rattle.writer.proofs.Spelt.{void, room_for}
 use Rattle.writer.proofs.sections.type_void.Goals as goal
 
-pub overflow_add-w : goal.overflow_add-w
-overflow_add-w c = omega (arith, c.well_formed, c.requires, put_few declarations (void c.args.id c.low_word.ensures) c.requires c.type_void-n.ensures)
+pub declare-requires-clause-room : goal.declare-requires-clause-room
+declare-requires-clause-room c = let a = c.args in
+    (words (type_void (low a.id)), (λ s n t k. search rules), room_for declarations (void a.id refl) c.requires)
 
 pub returns : goal.returns
-returns c = put_one declarations (void c.args.id c.low_word.ensures) c.requires c.type_void-n.ensures tt
+returns c = let a = c.args in
+    c.declare.ensures (type_void a.id) (2) (words (type_void (low a.id))) (λ s n t k. search rules) (void a.id refl) c.requires

@@ -28,15 +28,15 @@ enter_composite-u-requires c =
     let f = c.get_type_id-f in
     omega (arith, m, f.ensures.grown, f.auto.tables, c.declare_composite-v.ensures.grown, p.rows)
 
-pub returns-in-Id : goal.returns-in-Id
-returns-in-Id c =
+pub returns-in-Some : goal.returns-in-Some
+returns-in-Some c =
     let a = c.args in
     let k = c.key-k in
     let x = c.find_composite in
-    composite_old (key_of a.ty) k.ensures.1 k.result k.ensures.0 a.n a.w a.tables.now a.sections.now x.result x.ensures c.in-Id.id c.in-Id.is
+    composite_old (key_of a.ty) k.ensures.1 k.result k.ensures.0 a.n a.w a.tables.now a.sections.now x.result x.ensures c.in-Some.id c.in-Some.is
 
-pub returns-in-Absent : goal.returns-in-Absent
-returns-in-Absent c =
+pub returns-in-None : goal.returns-in-None
+returns-in-None c =
     let a = c.args in
     let k = c.key-k in
     let x = c.find_composite in
@@ -44,5 +44,5 @@ returns-in-Absent c =
     let f = c.get_type_id-f in
     let d = c.declare_composite-v in
     let u = c.enter_composite-u in
-    composite_new (key_of a.ty) k.ensures.1 k.result k.ensures.0 a.n a.w a.tables.now a.sections.now x.result x.ensures c.in-Absent.is
+    composite_new (key_of a.ty) k.ensures.1 k.result k.ensures.0 a.n a.w a.tables.now a.sections.now x.result x.ensures c.in-None.is
     m.result m.ensures f.result f.new.tables f.new.sections f.auto.tables f.ensures d.result d.new.sections d.ensures u.result u.new.tables u.ensures

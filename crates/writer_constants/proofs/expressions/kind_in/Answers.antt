@@ -1,7 +1,7 @@
 -- A Scalar's fields are its kind's number and its width; no other tag has a kind, and what is no tag has none.
 use Prim.Native.Nat.{ℕ}
 use mathlib.Core.Path.{sym, ap, ◌∙◌}
-use mathlib.Core.Option.{some}
+use Rattle.std.specs.Prelude.{Some}
 use native.Mathlib.Omega.{arith}
 use Rattle.definition.specs.Bytes.{name_end}
 use Rattle.definition.specs.Shapes.{kind_of}
@@ -18,7 +18,7 @@ returns-in-16 c =
     let u = c.u8_at.ensures in
     let v = c.u8_at-in-16.ensures in
     let k = c.kind_code.ensures in (
-      k.0 ∙ (λ j. kind_code (some (kind_of (u j) (v j)))) ∙ sym (ap kind_code (one_kind a.tag a.d.now p.result c.in-16.is))
+      k.0 ∙ (λ j. kind_code (Some (kind_of (u j) (v j)))) ∙ sym (ap kind_code (one_kind a.tag a.d.now p.result c.in-16.is))
           ∙ ap (λ (n : ℕ). kind_code (kind_of_scalar (type_fields a.tag a.d.now n).value)) p.ensures.value,
       k.1,
     )

@@ -9,7 +9,6 @@ use Rattle.definition.specs.Shapes.{kind_of, scalar, vector, entry, shape}
 use Rattle.definition.specs.Sheet.{u16s_at, members_at}
 use Rattle.definition.specs.Tests.{member_types}
 use Rattle.definition.specs.Unfit.{each, members, nowhere}
-use Rattle.kinds.specs.Numbers.{kind_number}
 use Rattle.lookup.specs.Local.{key_of}
 use Rattle.writer_constants.proofs.Fitting.{vector_places, matrix_places, array_places, dynamic_places, struct_places, no_places, fit_by}
 use Rattle.writer_constants.proofs.fitness.places_fit.Goals as goal
@@ -32,8 +31,9 @@ returns-in-17 c =
     let k = c.kind_for-kind in
     let n = c.u8_at-in-17 in
     let r = c.each_fits in
-    fit_by a.tag d p.result p.ensures.value (u16s_at a.b.now 4 a.n) a.w a.tables.now r.result (each n.result (shape (scalar (kind_of (kind_number k.result) c.u8_at-width.result))))
-    (vector_places a.tag d p.result c.in-17.is ∙ sym (λ j. each (n.ensures j) (shape (scalar ((k.ensures c.u8_at-width.result ∙ (λ z. kind_of (x z) (y z))) j))))) r.ensures
+    let v = c.value_type-l in
+    fit_by a.tag d p.result p.ensures.value (u16s_at a.b.now 4 a.n) a.w a.tables.now r.result (each n.result (key_of v.result))
+    (vector_places a.tag d p.result c.in-17.is ∙ sym (λ j. each (n.ensures j) ((v.ensures ∙ (λ z. shape (scalar ((k.ensures c.u8_at-width.result ∙ (λ u. kind_of (x u) (y u))) z)))) j))) r.ensures
 
 pub returns-in-18 : goal.returns-in-18
 returns-in-18 c =
@@ -42,7 +42,7 @@ returns-in-18 c =
     let p = c.name_end-p in
     let x = c.u8_at-rows.ensures in
     let y = c.u8_at-in-18.ensures in
-    let v = c.vector_type-l in
+    let v = c.value_type-l-in-18 in
     let n = c.u8_at-in-18-2 in
     let r = c.each_fits-in-18 in
     fit_by a.tag d p.result p.ensures.value (u16s_at a.b.now 4 a.n) a.w a.tables.now r.result (each n.result (key_of v.result))
@@ -66,7 +66,7 @@ returns-in-23 c =
     let p = c.name_end-p in
     let r = c.members_fit in
     fit_by a.tag d p.result p.ensures.value (u16s_at a.b.now 4 a.n) a.w a.tables.now r.result (members (member_types (members_at d (p.result + 5) (u8_at d (p.result + 4)))))
-    (struct_places a.tag d p.result c.in-23.is) r.ensures
+    (struct_places a.tag d p.result c.in-23.is) (rw c.behind.ensures.value at r.ensures)
 
 pub returns-in_default : goal.returns-in_default
 returns-in_default c = let a = c.args in let d = a.d.now in let p = c.name_end-p in

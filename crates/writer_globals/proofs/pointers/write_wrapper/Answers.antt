@@ -2,7 +2,6 @@
 -- the callees promise, in the order of the calls. The type is an entry, and finding it changes nothing (`entry_got`).
 use mathlib.Core.Path.{◌∙◌}
 use native.Mathlib.Omega.{arith}
-use Rattle.type_facts.specs.Facets.{number_of}
 use Rattle.finding.proofs.Entries.{entry_got}
 use Rattle.writer_globals.proofs.PointerForms.{room_find, room_struct, room_id, room_pointer, wrapper}
 use Rattle.writer_globals.proofs.pointers.write_wrapper.Goals as goal
@@ -21,4 +20,4 @@ type_pointer-u-requires c = room_pointer c.requires c.take_id-n.ensures.grown c.
 
 pub returns : goal.returns
 returns c = let a = c.args in let m = c.decorate_struct_member-c in let f = c.type_id-x in
-    wrapper a.ty a.class (number_of a.stride) c.take_id-n.ensures c.put_block-a.ensures m.ensures (entry_got a.ty m.result c.put_block-a.new.tables f.result f.ensures m.new.sections) c.type_struct-d.ensures c.take_id-p.ensures c.type_pointer-u.ensures
+    wrapper a.ty a.class a.stride c.take_id-n.ensures c.put_block-a.ensures m.ensures (entry_got a.ty m.result c.put_block-a.new.tables f.result f.ensures m.new.sections) c.type_struct-d.ensures c.take_id-p.ensures c.type_pointer-u.ensures

@@ -1,9 +1,0 @@
--- Either way out has its test as a fact, and with it the definition's choice computes.
-use borrow.Author.Tests.{eq-eqb, ne_eqb}
-use Rattle.locals.proofs.vector_size.Goals as goal
-
-pub returns-then-n-eq0 : goal.returns-then-n-eq0
-returns-then-n-eq0 c = simp (eq-eqb _ _ c.if-n-eq0.true)
-
-pub returns : goal.returns
-returns c = simp (ne_eqb _ _ c.if-n-eq0.false)
