@@ -27,7 +27,8 @@ fn literal_of(b: &[u8]) -> Literal
         1 => literals::f32_of_bits(fields::u32_at(b, 1)),
         2 => literals::u32_of_bits(fields::u32_at(b, 1)),
         3 => literals::i32_of_bits(fields::u32_at(b, 1)),
-        4 | _ => Literal::Bool(fields::u8_at(b, 1) == 1),
+        4 => Literal::Bool(fields::u8_at(b, 1) == 1),
+        _ => Literal::Bool(fields::u8_at(b, 1) == 1),
     }
 }
 
@@ -43,7 +44,11 @@ pub fn expression_of(tag: u8, body: &[u8]) -> Expression
             ty: fields::u16_at(body, 0),
             count: fields::u16_at(body, 2),
         },
-        68 | _ => Expression::Splat {
+        68 => Expression::Splat {
+            size: fields::u8_at(body, 0),
+            value: fields::u16_at(body, 1),
+        },
+        _ => Expression::Splat {
             size: fields::u8_at(body, 0),
             value: fields::u16_at(body, 1),
         },

@@ -83,7 +83,8 @@ pub fn inner_of(tag: u8, body: &[u8]) -> TypeInner
         25 => sampler(named),
         26 => TypeInner::AccelerationStructure,
         27 => TypeInner::RayQuery,
-        28 | _ => binding_array(named),
+        28 => binding_array(named),
+        _ => binding_array(named),
     }
 }
 

@@ -15,8 +15,11 @@ fn literal_end(b: &[u8]) -> usize
 {
     match fields::u8_at(b, 0) {
         0 => 9,
-        1 | 2 | 3 => 5,
-        4 | _ => 2,
+        1 => 5,
+        2 => 5,
+        3 => 5,
+        4 => 2,
+        _ => 2,
     }
 }
 
@@ -25,9 +28,11 @@ pub fn end_of(tag: u8, body: &[u8]) -> usize
 {
     match tag {
         64 => literal_end(body),
-        65 | 66 => 2,
+        65 => 2,
+        66 => 2,
         67 => 4 + 2 * fields::u16_at(body, 2) as usize,
-        68 | _ => 3,
+        68 => 3,
+        _ => 3,
     }
 }
 
@@ -36,8 +41,12 @@ fn literal_fits(b: &[u8]) -> bool
     ensures { result ≡ literal_fits (literal_fields b.now).value }
 {
     match fields::u8_at(b, 0) {
-        0 | 1 | 2 | 3 => true,
-        4 | _ => fields::u8_at(b, 1) <= 1,
+        0 => true,
+        1 => true,
+        2 => true,
+        3 => true,
+        4 => fields::u8_at(b, 1) <= 1,
+        _ => fields::u8_at(b, 1) <= 1,
     }
 }
 
@@ -46,8 +55,11 @@ pub fn values_fit(tag: u8, body: &[u8]) -> bool
 {
     match tag {
         64 => literal_fits(body),
-        65 | 66 | 67 => true,
-        68 | _ => size_fits(fields::u8_at(body, 0)),
+        65 => true,
+        66 => true,
+        67 => true,
+        68 => size_fits(fields::u8_at(body, 0)),
+        _ => size_fits(fields::u8_at(body, 0)),
     }
 }
 
@@ -79,6 +91,7 @@ pub fn read_already(tag: u8, body: &[u8], types: usize, constants: usize) -> boo
         65 => one_below(body, 0, constants),
         66 => one_below(body, 0, types),
         67 => compose_read(body, types, constants),
-        68 | _ => one_below(body, 1, constants),
+        68 => one_below(body, 1, constants),
+        _ => one_below(body, 1, constants),
     }
 }

@@ -21,15 +21,20 @@ pub fn end_of(tag: u8, named: Named<'_>) -> usize
 {
     let n = named.end;
     match tag {
-        16 | 19 => n + 2,
-        17 | 18 => n + 3,
+        16 => n + 2,
+        17 => n + 3,
+        18 => n + 3,
+        19 => n + 2,
         20 => n + 4,
-        21 | 24 => n + 5,
+        21 => n + 5,
         22 => n + 10,
         23 => Members::behind(named.body, n).end(),
+        24 => n + 5,
         25 => n + 1,
-        26 | 27 => n,
-        28 | _ => n + 6,
+        26 => n,
+        27 => n,
+        28 => n + 6,
+        _ => n + 6,
     }
 }
 
@@ -38,8 +43,20 @@ pub fn names_fit(tag: u8, named: Named<'_>) -> bool
     ensures { result ≡ every name_fits (inner_names (type_behind tag named.entry).value) }
 {
     match tag {
+        16 => true,
+        17 => true,
+        18 => true,
+        19 => true,
+        20 => true,
+        21 => true,
+        22 => true,
         23 => member_names_fit(Members::behind(named.body, named.end)),
-        16..=22 | 24..=28 | _ => true,
+        24 => true,
+        25 => true,
+        26 => true,
+        27 => true,
+        28 => true,
+        _ => true,
     }
 }
 
@@ -48,15 +65,20 @@ pub fn values_fit(tag: u8, named: Named<'_>) -> bool
     ensures { result ≡ inner_fits (type_behind tag named.entry).value }
 {
     match tag {
-        16 | 19 => scalar_fits(named.u8_at(0), named.u8_at(1)),
+        16 => scalar_fits(named.u8_at(0), named.u8_at(1)),
         17 => vector_fits(named),
         18 => matrix_fits(named),
+        19 => scalar_fits(named.u8_at(0), named.u8_at(1)),
         20 => space_fits(named.u8_at(2), named.u8_at(3)),
         21 => value_pointer_fits(named),
+        22 => true,
         23 => named.u8_at(4) <= 64,
         24 => image_fits(named),
         25 => named.u8_at(0) <= 1,
-        22 | 26 | 27 | 28 | _ => true,
+        26 => true,
+        27 => true,
+        28 => true,
+        _ => true,
     }
 }
 
@@ -65,9 +87,20 @@ pub fn read_already(tag: u8, named: Named<'_>, types: usize) -> bool
     ensures { result ≡ below types (inner_types (type_behind tag named.entry).value) }
 {
     match tag {
-        16..=19 | 21 | 24..=27 => true,
+        16 => true,
+        17 => true,
+        18 => true,
+        19 => true,
+        20 => one_below(named.body, named.end, types),
+        21 => true,
+        22 => one_below(named.body, named.end, types),
         23 => members_read_already(Members::behind(named.body, named.end), types),
-        20 | 22 | 28 | _ => one_below(named.body, named.end, types),
+        24 => true,
+        25 => true,
+        26 => true,
+        27 => true,
+        28 => one_below(named.body, named.end, types),
+        _ => one_below(named.body, named.end, types),
     }
 }
 
