@@ -10,7 +10,7 @@ use native.Mathlib.Omega.{arith}
 use native.Mathlib.Nat.{not-suc-le-zero}
 use borrow.Author.Tests.{le-leb, lt-leb, lt-ltb, le-ltb, eq-eqb, ne_eqb}
 use lib.ListN.{length, get_or, take, replicate, length-map, length-take, length-replicate}
-use Rattle.definition.specs.Sheet.{Global, global}
+use Rattle.definition.specs.Sheet.{TypeEntry, Global, global}
 use Rattle.definition.specs.State.{State, bound_of, module_words}
 use Rattle.definition.specs.Tests.{Seen, Judged, refused, fit, values_fit}
 use Rattle.definition.specs.Rules.{needs_wrapper}
@@ -22,8 +22,8 @@ use Rattle.definition.proofs.Answers.{Known, judged_known, demand_1, check_answe
 use Rattle.definition.proofs.Demand.{demand_3_of_declare}
 use Rattle.definition.proofs.Words.{fit_words}
 use Rattle.kinds.specs.Numbers.{space_number}
-use Rattle.records.specs.declared.Counts.{Counts}
-use Rattle.records.specs.Places.{Places, places_of, Ample, types_from, global_from}
+use Rattle.sheet.specs.declared.holding.Holding.{Holding}
+use Rattle.records.specs.Places.{places_of, Ample, types_from, global_from}
 use Rattle.entries.specs.declared.globals.GlobalVariable.{GlobalVariable}
 use Rattle.entries.specs.Globals.{GlobalTakenFrom}
 use Rattle.writer.specs.declared.Writer.{Writer}
@@ -34,7 +34,7 @@ use Rattle.refusals.specs.Numbers.{number_of}
 use Rattle.refusals.proofs.Tests.{sixteen}
 use Rattle.sheet_writer.specs.Whole.{before_bound, Capacity, SheetWritten}
 use Rattle.module_layout.specs.declared.Module.{Module}
-use Rattle.module_layout.specs.Finished.{answer_of, declared_as, Worded, Roomy, CountFits, Finished}
+use Rattle.module_layout.specs.Finished.{answer_of, declared_as, Worded, CountFits}
 use Rattle.declarations.specs.Promise.{DeclarePromise, CheckPromise, WrappedPromise, verdict_as, wrapping_as}
 use Rattle.declarations.specs.Stages.{Lent, Roomed, Ended, PlacesStand, Standing, WrappedAs, verdict_from}
 
@@ -79,9 +79,9 @@ module _ (s : List ℕ) where
     refused_small : (n m bound : ℕ) → answer_of a ≡ Meant.Refused n → answer_of a ≡ Meant.Written m bound → m < 4294967296
     refused_small n m bound e f = let z : ◌≡◌ {A = ℕ} 0 1 = cc in absurd (omega arith)
 
-    pub declared : (bytes : ℕ) (p : Places) (T S : List ℕ) (o : Result (Counts × Writer) Refusal) → IsBytes s → SheetWritten s bytes p T S o → Ended S o b a after → DeclarePromise s b a after
-    declared nb p T S (Err r) bytes c e = kept bytes (λ m bound w. refused_small (number_of r) m bound (ap (λ (d : Declared). d.answer) e) w) (as_declared (refused (number_of r)) c e)
-    declared nb p T S (Ok (k, w)) bytes c e = kept bytes (λ m bound. counted_small a m bound e.counted) (as_declared (fit c.progress) c.same (e.says c.progress T c.held (worded bytes c.progress c.same)))
+    pub declared : (h : Holding) (w : Writer) (o : Result (Unit {0}) Refusal) (v : Writer) → IsBytes s → SheetWritten s h w o v → Ended v o b a after → DeclarePromise s b a after
+    declared h w (Err r) v bytes c e = kept bytes (λ m bound w. refused_small (number_of r) m bound (ap (λ (d : Declared). d.answer) e) w) (as_declared (refused (number_of r)) c e)
+    declared h w (Ok u) v bytes c e = kept bytes (λ m bound. counted_small a m bound e.counted) (as_declared (fit c.progress) c.same (e.says c.progress v.tables.now c.held (worded bytes c.progress c.same)))
 
 -- ---- the scratch of the operations themselves: zeros, as many as a sheet can fill
 
@@ -90,27 +90,16 @@ zeros zero j = refl
 zeros (suc n) zero = refl
 zeros (suc n) (suc j) = zeros n j
 
-pub lent : (s : List ℕ) (nrecords nbytes : ℕ) (T S : List ℕ) → Lent s nrecords nbytes T S → Capacity s nrecords nbytes T S (replicate 256 0)
-lent s nrecords nbytes T S l = record { for_bytes = l.for_bytes; for_records = l.for_records; tables = l.tables; sections = l.sections; memo = zeros 256; memo-length = simp length-replicate (omega arith) }
+pub lent : (s : List ℕ) (w : Writer) → Lent s w → Capacity s w (replicate 256 0)
+lent s w l = record { for_bytes = l.for_bytes; for_records = l.for_records; tables = l.tables; sections = l.sections; memo = zeros 256; memo-length = simp length-replicate (omega arith) }
 
 pub ample : Ample (places_of (replicate 64 0) (replicate 512 0) (replicate 256 0) (replicate 64 0))
 ample = record { remaps = simp length-replicate (omega arith); types = simp length-replicate (omega arith); constants = simp length-replicate (omega arith); globals = simp length-replicate (omega arith) }
 
 -- the sections have room for what is in use
-pub roomed : (s : List ℕ) (bytes : ℕ) (p : Places) (T S : List ℕ) (o : Result (Counts × Writer) Refusal) → SheetWritten s bytes p T S o → bytes ≤ 65536 → Roomed S o
-roomed s bytes p T S (Err r) c h = tt
-roomed s bytes p T S (Ok (k, w)) c h = record { room = c.room.words; few = omega (arith, c.size) }
-
--- where the outcome is known
-module _ (S : List ℕ) (o : Result (Counts × Writer) Refusal) where
-  pub roomy : (k : Counts) (w : Writer) → o ≡ Ok (k, w) → Roomed S o → Roomy w S
-  roomy k w e h = subst (Roomed S) e h
-
-  pub ended_refused : (r : Refusal) (b : List ℕ) → o ≡ Err r → Ended S o b (Err r) b
-  ended_refused r b e = rw e refl
-
-  pub ended_fit : (k : Counts) (w : Writer) (b : List ℕ) (a : Result Module Refusal) (after : List ℕ) → o ≡ Ok (k, w) → Finished w S b a after → Ended S o b a after
-  ended_fit k w b a after e f = rw e f
+pub roomed : (s : List ℕ) (h : Holding) (w : Writer) (o : Result (Unit {0}) Refusal) (v : Writer) → SheetWritten s h w o v → w.used.bytes ≤ 65536 → Roomed v o
+roomed s h w (Err r) v c few = tt
+roomed s h w (Ok u) v c few = record { room = c.room.words; few = omega (arith, c.size) }
 
 -- ---- Check
 
@@ -144,54 +133,60 @@ at_place s [] (suc n) i d h l = absurd (not-suc-le-zero l)
 at_place s (g ∷ gs) (suc n) zero d h l = refl
 at_place s (g ∷ gs) (suc n) (suc i) d h l = at_place s gs n i d (omega arith) (omega arith)
 
-pub standing : (s : List ℕ) (bytes : ℕ) (p : Places) (T S : List ℕ) (o : Result (Counts × Writer) Refusal) → SheetWritten s bytes p T S o → Standing s p.types p.globals o
-standing s bytes p T S (Err r) c = tt
-standing s bytes p T S (Ok (k, w)) c =
-    let g : k.globals ≤ length p.globals = omega (arith, c.ample.globals, c.few.globals) in
+pub standing : (h : Holding) (w : Writer) (o : Result (Unit {0}) Refusal) (v : Writer) → SheetWritten h.sheet.now h w o v → Standing h o
+standing h w (Err r) v c = tt
+standing h w (Ok u) v c =
+    let s = h.sheet.now in
+    let g : h.counts.globals ≤ length h.globals.now = omega (arith, c.ample.globals, c.few.globals) in
     record {
       in_types = omega (arith, c.ample.types, c.few.types);
       in_globals = g;
-      fits = λ i h. subst (λ (x : Global). values_fit (global x) ≡ true) (at_place s p.globals k.globals i no_global h g) (c.globals i);
+      fits = λ i l. subst (λ (x : Global). values_fit (global x) ≡ true) (at_place s h.globals.now h.counts.globals i no_global l g) (c.globals i);
     }
 
-pub wrapped_as : (s : List ℕ) (bytes : ℕ) (p : Places) (T S : List ℕ) (o : Result (Counts × Writer) Refusal) (index : ℕ) (r : Result Bool Refusal) → SheetWritten s bytes p T S o → WrappedAs s p.types p.globals o index r → WrappedPromise s index r
+pub wrapped_as : (h : Holding) (w : Writer) (o : Result (Unit {0}) Refusal) (v : Writer) (index : ℕ) (r : Result Bool Refusal) → SheetWritten h.sheet.now h w o v → WrappedAs h v o index r → WrappedPromise h.sheet.now index r
 unfolding wrapped
-wrapped_as s bytes p T S o index r c a = let q = same o c a in record { answered = rw q (wrapped_answers s index); same = q }
+wrapped_as h w o v index r c a = let q = same o c a in record { answered = rw q (wrapped_answers s index); same = q }
   where
-    same : (o : Result (Counts × Writer) Refusal) → SheetWritten s bytes p T S o → WrappedAs s p.types p.globals o index r → wrapping_as r ≡ wrapped s index
+    s : List ℕ
+    s = h.sheet.now
+
+    same : (o : Result (Unit {0}) Refusal) → SheetWritten s h w o v → WrappedAs h v o index r → wrapping_as r ≡ wrapped s index
     same (Err q) c a = a ∙ ap (λ (j : Judged Progress). wrapping_of index (bound_test j)) c ∙ sym (ap (wrapping_of index) (is_judged s))
-    same (Ok (k, w)) c a =
+    same (Ok u) c a =
         a c.progress (ap (λ (n : Seen). n.types) c.seen) (ap (λ (n : Seen). n.globals) c.seen) c.held.last
         ∙ ap (λ (j : Judged Progress). wrapping_of index (bound_test j)) c.same ∙ sym (ap (wrapping_of index) (is_judged s))
 
 -- the ways out, where the outcome is known
-module _ (s ts gs : List ℕ) (o : Result (Counts × Writer) Refusal) (index : ℕ) where
-  pub wraps_refused : (r : Refusal) → o ≡ Err r → WrappedAs s ts gs o index (Err r)
+module _ (h : Holding) (v : Writer) (o : Result (Unit {0}) Refusal) (index : ℕ) where
+  pub wraps_refused : (r : Refusal) → o ≡ Err r → WrappedAs h v o index (Err r)
   wraps_refused r e = rw e refl
 
-  module _ (k : Counts) (w : Writer) (e : o ≡ Ok (k, w)) where
-    pub stood : Standing s ts gs o → PlacesStand s ts gs k.types k.globals
-    stood h = subst (Standing s ts gs) e h
+  module _ (e : o ≡ Ok tt) where
+    pub stood : Standing h o → PlacesStand h.sheet.now h.types.now h.globals.now h.counts.types h.counts.globals
+    stood p = subst (Standing h) e p
 
-    pub wraps_15 : 4194303 ≤ w.idgen.last → WrappedAs s ts gs o index (Err Bound)
-    wraps_15 h = rw e (λ p et eg el. rw (lt-leb (bound_of p.state) bound_most (omega arith)))
+    pub wraps_15 : 4194303 ≤ v.used.idgen.last → WrappedAs h v o index (Err Bound)
+    wraps_15 g = rw e (λ p et eg el. rw (lt-leb (bound_of p.state) bound_most (omega arith)))
 
-    module _ (low : w.idgen.last < 4194303) where
-      pub wraps_17 : k.globals ≤ index → WrappedAs s ts gs o index (Err NoGlobal)
-      wraps_17 h = rw e (λ p et eg el.
+    module _ (low : v.used.idgen.last < 4194303) where
+      pub wraps_17 : h.counts.globals ≤ index → WrappedAs h v o index (Err NoGlobal)
+      wraps_17 g = rw e (λ p et eg el.
           let l : length p.seen.globals ≤ index = rw eg (simp (length-map, length-take) (omega arith)) in
           rw (le-leb (bound_of p.state) bound_most (omega arith), le-ltb index (length p.seen.globals) l))
 
-      pub wraps_answer : index < k.globals → k.globals ≤ length gs → (y : Bool) → y ≡ needs_wrapper (types_from s ts k.types) (global_from s (get_or gs index 0)) → WrappedAs s ts gs o index (Ok y)
-      wraps_answer h g y q = rw e (λ p et eg el.
+      pub wraps_answer : index < h.counts.globals → h.counts.globals ≤ length h.globals.now → (y : Bool) → y ≡ needs_wrapper (types_from h.sheet.now h.types.now h.counts.types) (global_from h.sheet.now (get_or h.globals.now index 0)) → WrappedAs h v o index (Ok y)
+      wraps_answer m g y q = rw e (λ p et eg el.
+          let s = h.sheet.now in
+          let gs = h.globals.now in
           let l : index < length p.seen.globals = rw eg (simp (length-map, length-take) (omega arith)) in
           let z : y ≡ needs_wrapper p.seen.types (get_or p.seen.globals index no_global) =
-          q ∙ (λ i. needs_wrapper (sym et i) (global_from s (get_or gs index 0))) ∙ ap (needs_wrapper p.seen.types) (sym (ap (λ (xs : List Global). get_or xs index no_global) eg ∙ at_place s gs k.globals index no_global h g)) in
+          q ∙ (λ i. needs_wrapper (sym et i) (global_from s (get_or gs index 0))) ∙ ap (needs_wrapper p.seen.types) (sym (ap (λ (xs : List Global). get_or xs index no_global) eg ∙ at_place s gs h.counts.globals index no_global m g)) in
           rw (le-leb (bound_of p.state) bound_most (omega arith), lt-ltb index (length p.seen.globals) l) (ap MeantWrapping.Wraps z))
 
 -- the global that was taken from its record is the one that was read
-pub taken_wraps : (s ts gs : List ℕ) (n index i : ℕ) (g : GlobalVariable) (y : Bool) → GlobalTakenFrom s (get_or gs index 0) g → values_fit (global (global_from s (get_or gs index 0))) ≡ true → g.ty ≡ i
-    → ((x : Global) → x.type ≡ i → x.space ≡ space_number g.space → y ≡ needs_wrapper (types_from s ts n) x) → y ≡ needs_wrapper (types_from s ts n) (global_from s (get_or gs index 0))
-taken_wraps s ts gs n index i g y t v ei f =
+pub taken_wraps : (s gs : List ℕ) (ts : List TypeEntry) (index i : ℕ) (g : GlobalVariable) (y : Bool) → GlobalTakenFrom s (get_or gs index 0) g → values_fit (global (global_from s (get_or gs index 0))) ≡ true → g.ty ≡ i
+    → ((x : Global) → x.type ≡ i → x.space ≡ space_number g.space → y ≡ needs_wrapper ts x) → y ≡ needs_wrapper ts (global_from s (get_or gs index 0))
+taken_wraps s gs ts index i g y t v ei f =
     let e = t v in
     f (global_from s (get_or gs index 0)) (sym (ap (λ (x : Global). x.type) e) ∙ ei) (sym (ap (λ (x : Global). x.space) e))

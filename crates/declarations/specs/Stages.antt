@@ -8,7 +8,7 @@ use Rattle.definition.specs.Operations.{Wrapping as MeantWrapping}
 use Rattle.records.specs.Places.{types_from, global_from}
 use Rattle.sheet_writer.specs.Whole.{records_most}
 use Rattle.std.specs.Prelude.{Bool, Result, Ok, Err}
-use Rattle.records.specs.declared.Counts.{Counts}
+use Rattle.sheet.specs.declared.holding.Holding.{Holding}
 use Rattle.refusals.specs.declared.Refusal.{Refusal}
 use Rattle.refusals.specs.Numbers.{number_of}
 use Rattle.writer.specs.declared.Writer.{Writer}
@@ -26,18 +26,18 @@ pub record Scratch (s : List ℕ) (nrecords nbytes numbers words : ℕ) : Type 0
   pub few : nbytes ≤ 65536
 
 -- the scratch that is lent is
-abbrev pub Lent : List ℕ → ℕ → ℕ → List ℕ → List ℕ → Type 0
-Lent s nrecords nbytes T S = Scratch s nrecords nbytes (length T) (length S)
+abbrev pub Lent : List ℕ → Writer → Type 0
+Lent s w = Scratch s w.used.records w.used.bytes (length w.tables.now) (length w.sections.now)
 
 -- where the records are declared, the sections have room
-abbrev pub Roomed : List ℕ → Result (Counts × Writer) Refusal → Type 0
-Roomed S (Err r) = Unit
-Roomed S (Ok (k, w)) = Roomy w S
+abbrev pub Roomed : Writer → Result (Unit {0}) Refusal → Type 0
+Roomed w (Err r) = Unit
+Roomed w (Ok u) = Roomy w.used w.sections.now
 
 -- a refusal changes no word; else the last stage is done
-abbrev pub Ended : List ℕ → Result (Counts × Writer) Refusal → List ℕ → Result Module Refusal → List ℕ → Type 0
-Ended S (Err r) before a after = declared_as a after ≡ unchanged (number_of r) before
-Ended S (Ok (k, w)) before a after = Finished w S before a after
+abbrev pub Ended : Writer → Result (Unit {0}) Refusal → List ℕ → Result Module Refusal → List ℕ → Type 0
+Ended w (Err r) before a after = declared_as a after ≡ unchanged (number_of r) before
+Ended w (Ok u) before a after = Finished w before a after
 
 -- what a Declare into too short a buffer says of Check
 abbrev pub verdict_from : Result Module Refusal → Result (Unit {0}) Refusal
@@ -50,15 +50,15 @@ pub record PlacesStand (s ts gs : List ℕ) (types globals : ℕ) : Type 0 where
   pub in_globals : globals ≤ length gs
   pub fits : (i : ℕ) → i < globals → values_fit (global (global_from s (get_or gs i 0))) ≡ true
 
-abbrev pub Standing : List ℕ → List ℕ → List ℕ → Result (Counts × Writer) Refusal → Type 0
-Standing s ts gs (Err r) = Unit
-Standing s ts gs (Ok (k, w)) = PlacesStand s ts gs k.types k.globals
+abbrev pub Standing : Holding → Result (Unit {0}) Refusal → Type 0
+Standing h (Err r) = Unit
+Standing h (Ok u) = PlacesStand h.sheet.now h.types.now h.globals.now h.counts.types h.counts.globals
 
 -- the answer is the definition's, of whatever it comes to with these types, these globals and this last id
-abbrev pub WrappedAs : List ℕ → List ℕ → List ℕ → Result (Counts × Writer) Refusal → ℕ → Result Bool Refusal → Type 0
-WrappedAs s ts gs (Err q) index r = wrapping_as r ≡ MeantWrapping.Refused (number_of q)
-WrappedAs s ts gs (Ok (k, w)) index r = (p : Progress) → p.seen.types ≡ types_from s ts k.types → p.seen.globals ≡ map (global_from s) (take k.globals gs)
-    → w.idgen.last ≡ p.state.last → wrapping_as r ≡ wrapping_of index (bound_test (fit p))
+abbrev pub WrappedAs : Holding → Writer → Result (Unit {0}) Refusal → ℕ → Result Bool Refusal → Type 0
+WrappedAs h w (Err q) index r = wrapping_as r ≡ MeantWrapping.Refused (number_of q)
+WrappedAs h w (Ok u) index r = (p : Progress) → p.seen.types ≡ types_from h.sheet.now h.types.now h.counts.types → p.seen.globals ≡ map (global_from h.sheet.now) (take h.counts.globals h.globals.now)
+    → w.used.idgen.last ≡ p.state.last → wrapping_as r ≡ wrapping_of index (bound_test (fit p))
 
 -- both answers of one reading keep their promises
 pub record Answered (s before : List ℕ) (index : ℕ) (r : Answers) (after : List ℕ) : Type 0 where

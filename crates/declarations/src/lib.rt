@@ -7,8 +7,9 @@ ghost use Rattle.declarations.specs.Promise.{DeclarePromise, CheckPromise, Wrapp
 ghost use Rattle.declarations.specs.Stages.{Lent, Scratch, Roomed, Ended, Standing, WrappedAs, Answered, verdict_from};
 
 use module_layout::{BOUND_MOST, Module};
-use records::Counts;
 use refusals::Refusal;
+use sheet::holding;
+use sheet::holding::Holding;
 use writer::Writer;
 
 // How large a sheet there is scratch for, by class, in bytes, and as many records as so many bytes can hold, or as a sheet may have; a
@@ -77,53 +78,42 @@ const NO_GLOBAL: usize = 64;
 
 // Tests 15 and 16, and the module, once the records are declared. A refusal writes nothing.
 fn finish(
-    sections: &[u32],
-    o: Result<(Counts, Writer), Refusal>,
+    w: &Writer<'_, '_>,
+    outcome: Result<(), Refusal>,
     words: &mut [u32],
 ) -> Result<Module, Refusal>
-    requires { Roomed sections.now o }
-    ensures { Ended sections.now o words.old result words.new }
+    requires { Roomed w.now outcome }
+    ensures { Ended w.now outcome words.old result words.new }
 {
-    let (_, w) = o?;
-    module_layout::write_module(words, sections, w)
+    outcome?;
+    module_layout::write_module(words, w)
 }
 
-// Test 15, 17, and whether the global is wrapped, once the records are read: global i of the first n stands at its place.
+// Test 15, 17, and whether the global is wrapped, once the records are read: the global stands at its place.
 fn wrapping_of(
-    sheet: &[u8],
-    types: &[u32],
-    globals: &[u32],
-    o: Result<(Counts, Writer), Refusal>,
+    w: &Writer<'_, '_>,
+    held: &Holding<'_>,
+    outcome: Result<(), Refusal>,
     index: usize,
 ) -> Result<bool, Refusal>
-    requires { Standing sheet.now types.now globals.now o }
-    ensures { WrappedAs sheet.now types.now globals.now o index result }
+    requires { Standing held.now outcome }
+    ensures { WrappedAs held.now w.now outcome index result }
 {
-    let (k, w) = o?;
-    let g = w.idgen;
-    if BOUND_MOST <= g.last {
+    outcome?;
+    if BOUND_MOST <= w.used.idgen.last {
         return Err(Refusal::Bound);
     }
-    if k.globals <= index {
+    if held.counts.globals <= index {
         return Err(Refusal::NoGlobal);
     }
-    let v = entries::globals::global_at(sheet, globals, index);
-    let space = v.space;
-    Ok(type_facts::global_needs_wrapper(sheet, types, k.types, v.ty as usize, space))
+    let v = entries::globals::global_at(held.sheet, held.globals, index);
+    Ok(type_facts::global_needs_wrapper(held.types(), v.ty as usize, v.space))
 }
 
-// The whole, over lent tables and sections. As many places are kept of each kind as a sheet may have, and behind those of the
-// types as many hashes.
-fn answers_in(
-    sheet: &[u8],
-    tables: &mut [u64],
-    sections: &mut [u32],
-    nrecords: usize,
-    nbytes: usize,
-    words: &mut [u32],
-    index: usize,
-) -> Answers
-    requires { Lent sheet.now nrecords nbytes tables.old sections.old }
+// The whole, by a writer whose slices are large enough. As many places are held of each kind as a sheet may have, and behind those of
+// the types as many hashes.
+fn answers_in(w: &mut Writer<'_, '_>, sheet: &[u8], words: &mut [u32], index: usize) -> Answers
+    requires { Lent sheet.now w.old }
     ensures { Answered sheet.now words.old index result words.new }
 {
     let mut memo = [0u8; 256];
@@ -131,24 +121,21 @@ fn answers_in(
     let mut types = [0u32; 512];
     let mut constants = [0u32; 256];
     let mut globals = [0u32; 64];
-    let o = sheet_writer::write_sheet(
-        tables,
-        sections,
-        &mut memo,
-        &mut remaps,
-        &mut types,
-        &mut constants,
-        &mut globals,
+    let mut held = Holding {
         sheet,
-        nrecords,
-        nbytes,
-    );
-    let wrapping = wrapping_of(sheet, &types, &globals, o, index);
-    let answer = finish(sections, o, words);
+        remaps: &mut remaps,
+        types: &mut types,
+        constants: &mut constants,
+        globals: &mut globals,
+        counts: holding::nothing(),
+    };
+    let outcome = sheet_writer::write_sheet(w, &mut memo, &mut held);
+    let wrapping = wrapping_of(w, &held, outcome, index);
+    let answer = finish(w, outcome, words);
     Answers { answer, wrapping }
 }
 
-// The same over scratch of its own, of so many numbers and words. It is never inlined, so that the scratch of one class alone lies on
+// The same over scratch of its own, of so many numbers and words, for a sheet of so many records and bytes. It is never inlined, so that the scratch of one class alone lies on
 // the stack.
 #[inline(never)]
 fn answers_over<const TABLES: usize, const SECTIONS: usize>(
@@ -164,15 +151,8 @@ fn answers_over<const TABLES: usize, const SECTIONS: usize>(
 {
     let mut tables = [0u64; TABLES];
     let mut sections = [0u32; SECTIONS];
-    answers_in(
-        sheet,
-        &mut tables,
-        &mut sections,
-        nrecords,
-        nbytes,
-        words,
-        index,
-    )
+    let mut w = Writer::new(&mut tables, &mut sections, nrecords, nbytes);
+    answers_in(&mut w, sheet, words, index)
 }
 
 // By the sheet's size: what is cleared at each call goes by it.

@@ -22,7 +22,7 @@ fn put_answer(a: Result<Module, Refusal>, words: &[u32], text: &mut [u8]) -> usi
     ensures { Printed (printed (declared_as a words.now)) text.old text.new result }
 {
     match a {
-        Ok(module) => printing::put_lines(text, words, module.words),
+        Ok(module) => printing::put_lines(text, &words[..module.words]),
         Err(refusal) => printing::put_refusal(text, refusal.number()),
     }
 }

@@ -1,28 +1,13 @@
--- What a shape names costs less than the shape does, by a length and its own instruction at most; and a room that
--- holds more holds less.
-use Prim.Native.Nat.{ℕ, suc, ◌≤◌}
+-- What a shape names costs less than the shape does, by a length and its own instruction at most.
+use Prim.Native.Nat.{ℕ, suc}
 use mathlib.Core.Path.{◌≡◌, refl}
 use Rattle.std.specs.Prelude.{Some, None}
 use native.Mathlib.Omega.{arith}
 use Rattle.definition.specs.Shapes.{Shape, Key, inner, sized, rank, rank_of}
 use Rattle.definition.specs.Shapes.{float, one, many, scalar, vector, matrix, pointer, value_pointer, image, sampler, acceleration_structure, ray_query, binding_array, binding_pointer, entry, shape}
-use Rattle.writer.specs.Cost.{Cost, ◌⊕◌}
+use Rattle.writer.specs.Cost.{◌⊕◌}
+use Rattle.writer.proofs.Turns.{AtMost}
 use Rattle.finding.specs.Costs.{own_cost, declared_cost, cost_of, literal_cost}
-
--- no part of a cost is more than the other's
-pub record AtMost (c d : Cost) : Type 0 where
-  pub types : c.types ≤ d.types
-  pub literals : c.literals ≤ d.literals
-  pub nulls : c.nulls ≤ d.nulls
-  pub values : c.values ≤ d.values
-  pub composites : c.composites ≤ d.composites
-  pub blocked : c.blocked ≤ d.blocked
-  pub parts : c.parts ≤ d.parts
-  pub capabilities : c.capabilities ≤ d.capabilities
-  pub names : c.names ≤ d.names
-  pub annotations : c.annotations ≤ d.annotations
-  pub declarations : c.declarations ≤ d.declarations
-  pub ids : c.ids ≤ d.ids
 
 -- a shape is one deeper than what it names
 pub inner_rank : (l : Shape) (k : Key) → inner l ≡ Some k → rank_of l ≡ suc (rank k)
@@ -90,17 +75,3 @@ module _ (l : Shape) (n : ℕ) where
       go ray_query i e = absurd (none_sized e)
       go (binding_array b m) i e = let h : entry b ≡ k = cc in rw (← h) (omega arith)
       go (binding_pointer b m s a) i e = absurd (none_sized e)
-
--- what names no type names no length
-pub bare : (l : Shape) → inner l ≡ None → sized l ≡ None
-bare (scalar a) e = refl
-bare (vector n a) e = refl
-bare (matrix c r w) e = refl
-bare (pointer b c) e = refl
-bare (value_pointer n a c) e = refl
-bare (image a d p r m s f) e = refl
-bare sampler e = refl
-bare acceleration_structure e = refl
-bare ray_query e = refl
-bare (binding_array b n) e = let z : ◌≡◌ {A = ℕ} 0 1 = cc in absurd (omega arith)
-bare (binding_pointer b n s a) e = refl

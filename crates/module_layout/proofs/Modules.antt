@@ -20,7 +20,8 @@ use Rattle.spirv.proofs.Puts.{Begun, more, part, back, behind}
 use Rattle.spirv.specs.Ids.{low}
 use Rattle.writer.specs.Regions.{Section, names, annotations, declarations, section_at, used}
 use Rattle.writer.specs.Cost.{no_cost}
-use Rattle.writer.specs.Held.{Held, RoomFor}
+use Rattle.writer.specs.Held.{HeldIn, WordsFit}
+use Rattle.writer.specs.declared.Used.{Used}
 use Rattle.writer.specs.declared.Writer.{Writer}
 use Rattle.std.specs.Prelude.{Ok, Err}
 use Rattle.refusals.specs.declared.Refusal.TheVariants.{BufferLength}
@@ -47,8 +48,8 @@ module_is : (s : State) → module_words s
 unfolding module_words instructions
 module_is s = simp all_append
 
-pub same_words : (w : Writer) (T S : List ℕ) (s : State) → Held w T S s → every is_word (module_words s) ≡ true → module_words_in w S (bound_of s) ≡ module_words s
-same_words w T S s h fits =
+pub same_words : (u : Used) (T S : List ℕ) (s : State) → HeldIn u T S s → every is_word (module_words s) ≡ true → module_words_in u S (bound_of s) ≡ module_words s
+same_words u T S s h fits =
     let cs = all_words (capability_instructions s.capabilities) in
     let ns = all_words s.names in
     let xs = all_words s.annotations in
@@ -63,19 +64,19 @@ same_words w T S s h fits =
 
 -- ---- how much lies in the regions
 
-module _ (w : Writer) (S : List ℕ) (room : RoomFor no_cost w S) where
-  pub listed : length (take w.capabilities S) ≡ w.capabilities
-  listed = length-take-le w.capabilities S (omega (arith, room.in_list, room.in_capabilities))
+module _ (u : Used) (S : List ℕ) (room : WordsFit no_cost u S) where
+  pub listed : length (take u.capabilities S) ≡ u.capabilities
+  listed = length-take-le u.capabilities S (omega (arith, room.in_list, room.in_capabilities))
 
-  in_region : (b : Section) → used b w ≤ length (drop (section_at b w) S)
+  in_region : (b : Section) → used b u ≤ length (drop (section_at b u) S)
   in_region names = simp length-drop (omega (arith, room.in_list, room.in_names))
   in_region annotations = simp length-drop (omega (arith, room.in_list, room.in_annotations))
   in_region declarations = simp length-drop (omega (arith, room.in_list, room.in_declarations))
 
-  taken : (b : Section) → length (take (used b w) (drop (section_at b w) S)) ≡ used b w
-  taken b = length-take-le (used b w) (drop (section_at b w) S) (in_region b)
+  taken : (b : Section) → length (take (used b u) (drop (section_at b u) S)) ≡ used b u
+  taken b = length-take-le (used b u) (drop (section_at b u) S) (in_region b)
 
-  pub count_is : (bound : ℕ) → length (module_words_in w S bound) ≡ module_count w
+  pub count_is : (bound : ℕ) → length (module_words_in u S bound) ≡ module_count u
   count_is bound = simp (length-append, caps-length, listed, taken names, taken annotations, taken declarations) (omega arith)
 
 -- ---- one section behind the other
@@ -87,40 +88,46 @@ front_put bound cs out room y z m k p q = record {
   next = refl;
 }
 
-pub module_put : (w : Writer) (S : List ℕ) (bound : ℕ) (out : List ℕ) → RoomFor no_cost w S → module_count w ≤ length out
-    → (y z3 z4 z5 : List ℕ) (at m3 m4 m5 : ℕ) → Front bound (take w.capabilities S) out y at
-    → Put (take w.names (drop (section_at names w) S)) (part y at) z3 m3
-    → Put (take w.annotations (drop (section_at annotations w) S)) (part (back y at z3) (at + w.names)) z4 m4
-    → Put (take w.declarations (drop (section_at declarations w) S)) (part (back (back y at z3) (at + w.names) z4) (at + w.names + w.annotations)) z5 m5
-    → Put (module_words_in w S bound) out (back (back (back y at z3) (at + w.names) z4) (at + w.names + w.annotations) z5) (at + w.names + w.annotations + w.declarations)
-module_put w S bound out room fits y z3 z4 z5 at m3 m4 m5 f q3 q4 q5 =
-    let cs = take w.capabilities S in
-    let l = listed w S room in
+pub module_put : (u : Used) (S : List ℕ) (bound : ℕ) (out : List ℕ) → WordsFit no_cost u S → module_count u ≤ length out
+    → (y z3 z4 z5 : List ℕ) (at m3 m4 m5 : ℕ) → Front bound (take u.capabilities S) out y at
+    → Put (take u.names (drop (section_at names u) S)) (part y at) z3 m3
+    → Put (take u.annotations (drop (section_at annotations u) S)) (part (back y at z3) (at + u.names)) z4 m4
+    → Put (take u.declarations (drop (section_at declarations u) S)) (part (back (back y at z3) (at + u.names) z4) (at + u.names + u.annotations)) z5 m5
+    → Put (module_words_in u S bound) out (back (back (back y at z3) (at + u.names) z4) (at + u.names + u.annotations) z5) (at + u.names + u.annotations + u.declarations)
+module_put u S bound out room fits y z3 z4 z5 at m3 m4 m5 f q3 q4 q5 =
+    let cs = take u.capabilities S in
+    let l = listed u S room in
     let b2 : Begun (header bound ++ all_words (capability_instructions cs)) out y at = record { written = f.written; size = simp length-append (omega (arith, f.next, caps-length cs)) } in
-    let b3 = more _ _ out y z3 at m3 w.names b2 q3 (sym (taken w S room names)) (omega (arith, f.next)) in
-    let b4 = more _ _ out _ z4 (at + w.names) m4 w.annotations b3 q4 (sym (taken w S room annotations)) (omega (arith, f.next)) in
-    (more _ _ out _ z5 (at + w.names + w.annotations) m5 w.declarations b4 q5 (sym (taken w S room declarations)) (omega (arith, f.next))).written
+    let b3 = more _ _ out y z3 at m3 u.names b2 q3 (sym (taken u S room names)) (omega (arith, f.next)) in
+    let b4 = more _ _ out _ z4 (at + u.names) m4 u.annotations b3 q4 (sym (taken u S room annotations)) (omega (arith, f.next)) in
+    (more _ _ out _ z5 (at + u.names + u.annotations) m5 u.declarations b4 q5 (sym (taken u S room declarations)) (omega (arith, f.next))).written
 
 -- ---- the answers
 
-module _ (w : Writer) (S out : List ℕ) (low : w.idgen.last < bound_most) (room : RoomFor no_cost w S) where
+module _ (w : Writer) (out : List ℕ) (low : w.used.idgen.last < bound_most) (room : WordsFit no_cost w.used w.sections.now) where
+  abbrev u : Used
+  u = w.used
+
+  abbrev S : List ℕ
+  S = w.sections.now
+
   -- 16
-  pub short : length out < module_count w → Finished w S out (Err BufferLength) out
+  pub short : length out < module_count u → Finished w out (Err BufferLength) out
   short h = record {
     says = λ p T held fits.
-        let e = same_words w T S p.state held (fits (omega (arith, held.last))) in
-        let l : length out < length (module_words p.state) = omega (arith, ap length e, count_is w S room (bound_of p.state)) in
+        let e = same_words u T S p.state held (fits (omega (arith, held.last))) in
+        let l : length out < length (module_words p.state) = omega (arith, ap length e, count_is u S room (bound_of p.state)) in
         simp (le-leb (bound_of p.state) bound_most (omega (arith, held.last)), lt-leb (length (module_words p.state)) (length out) l);
     counted = tt;
   }
 
-  pub written : (bound n m : ℕ) (after : List ℕ) → bound ≡ w.idgen.last + 1 → n ≡ module_count w → n ≤ length out → w.bytes ≤ 65536 → Put (module_words_in w S bound) out after m
-      → Finished w S out (Ok (record { words = n; bound = bound })) after
+  pub written : (bound n m : ℕ) (after : List ℕ) → bound ≡ u.idgen.last + 1 → n ≡ module_count u → n ≤ length out → u.bytes ≤ 65536 → Put (module_words_in u S bound) out after m
+      → Finished w out (Ok (record { words = n; bound = bound })) after
   written bound n m after eb en h few q = record {
     says = λ p T held fits.
         let eq : bound ≡ bound_of p.state = omega (arith, held.last) in
-        let e : module_words_in w S bound ≡ module_words p.state = rw eq (same_words w T S p.state held (fits (omega (arith, held.last)))) in
-        let l : length (module_words p.state) ≡ n = omega (arith, ap length e, count_is w S room bound) in
+        let e : module_words_in u S bound ≡ module_words p.state = rw eq (same_words u T S p.state held (fits (omega (arith, held.last)))) in
+        let l : length (module_words p.state) ≡ n = omega (arith, ap length e, count_is u S room bound) in
         let f : after ≡ put (module_words p.state) out = q.words ∙ ap (λ (ws : List ℕ). put ws out) e in
         simp (le-leb (bound_of p.state) bound_most (omega (arith, held.last)), le-leb (length (module_words p.state)) (length out) (omega arith)) cc;
     counted = omega (arith, few, room.in_capabilities, room.in_names, room.in_annotations, room.in_declarations);

@@ -9,7 +9,8 @@ use Rattle.definition.specs.Operations.{Progress, Declared, bound_most, bound_te
 use Rattle.definition.specs.Operations.{Answer as Meant}
 use Rattle.spirv.specs.Put.{Put}
 use Rattle.writer.specs.Cost.{no_cost}
-use Rattle.writer.specs.Held.{Held, RoomFor, Sections, sections_of}
+use Rattle.writer.specs.Held.{HeldIn, WordsFit, Sections, sections_of}
+use Rattle.writer.specs.declared.Used.{Used}
 use Rattle.writer.specs.declared.Writer.{Writer}
 use Rattle.std.specs.Prelude.{Result, Ok, Err}
 use Rattle.refusals.specs.declared.Refusal.{Refusal}
@@ -29,15 +30,15 @@ declared_as r b = record { answer = answer_of r; buffer = b }
 -- ---- the module as it lies in the sections
 
 -- how many words it has
-abbrev pub module_count : Writer → ℕ
-module_count w = 5 + 2 * w.capabilities + w.names + w.annotations + w.declarations
+abbrev pub module_count : Used → ℕ
+module_count u = 5 + 2 * u.capabilities + u.names + u.annotations + u.declarations
 
 -- the header and the four sections, one behind the other
 abbrev pub laid_out : ℕ → Sections → List ℕ
 laid_out bound c = (((header bound ++ all_words (capability_instructions c.capabilities)) ++ c.names) ++ c.annotations) ++ c.declarations
 
-abbrev pub module_words_in : Writer → List ℕ → ℕ → List ℕ
-module_words_in w S bound = laid_out bound (sections_of w S)
+abbrev pub module_words_in : Used → List ℕ → ℕ → List ℕ
+module_words_in u S bound = laid_out bound (sections_of u S)
 
 -- the header and the capabilities were put at the front of a buffer, and n is the place behind them
 pub record Front (bound : ℕ) (numbers before after : List ℕ) (n : ℕ) : Type 0 where
@@ -45,9 +46,9 @@ pub record Front (bound : ℕ) (numbers before after : List ℕ) (n : ℕ) : Typ
   pub next : n ≡ 5 + 2 * length numbers
 
 -- the sections lie in their regions, and these are so small that their lengths add up to a number of the machine's
-pub record Roomy (w : Writer) (S : List ℕ) : Type 0 where
-  pub room : RoomFor no_cost w S
-  pub few : w.bytes ≤ 65536
+pub record Roomy (u : Used) (S : List ℕ) : Type 0 where
+  pub room : WordsFit no_cost u S
+  pub few : u.bytes ≤ 65536
 
 -- ---- the promise: whatever progress is held, answer and buffer are what the definition makes of it
 
@@ -60,7 +61,6 @@ abbrev pub CountFits : Result Module Refusal → Type 0
 CountFits (Ok m) = m.words < 4294967296
 CountFits (Err r) = Unit
 
-pub record Finished (w : Writer) (S before : List ℕ) (r : Result Module Refusal) (after : List ℕ) : Type 0 where
-  pub says : (p : Progress) (T : List ℕ) → Held w T S p.state → Worded p.state
-      → declared_as r after ≡ declared_of before (bound_test (fit p))
+pub record Finished (w : Writer) (before : List ℕ) (r : Result Module Refusal) (after : List ℕ) : Type 0 where
+  pub says : (p : Progress) (T : List ℕ) → HeldIn w.used T w.sections.now p.state → Worded p.state → declared_as r after ≡ declared_of before (bound_test (fit p))
   pub counted : CountFits r

@@ -13,7 +13,7 @@ use refusals::Refusal;
 use spirv::instructions::capability;
 use spirv::layout::PhysicalLayout;
 use spirv::words::put_words;
-use writer::{ANNOTATIONS, DECLARATIONS, NAMES, Writer};
+use writer::{ANNOTATIONS, DECLARATIONS, NAMES, Used, Writer};
 
 // A module that was written: its word count and its bound.
 #[derive(Clone, Copy)]
@@ -62,53 +62,53 @@ fn put_section(left: &mut [u32], sections: &[u32], start: usize, n: usize) -> us
 }
 
 // How many words the module has.
-fn module_count(w: Writer) -> usize
-    requires { module_count w < 4294967296 }
-    ensures { result ≡ module_count w }
+fn module_count(u: Used) -> usize
+    requires { module_count u < 4294967296 }
+    ensures { result ≡ module_count u }
 {
-    HEADER_WORDS + CAPABILITY_WORDS * w.capabilities + w.names + w.annotations + w.declarations
+    HEADER_WORDS + CAPABILITY_WORDS * u.capabilities + u.names + u.annotations + u.declarations
 }
 
 // The header and the four sections, in a buffer that has room for them: each section's writer is lent what is left from the
 // current place on.
-fn put_module(out: &mut [u32], sections: &[u32], w: Writer, bound: u32) -> usize
-    requires { Roomy w sections.now × (module_count w ≤ length out.old) }
-    ensures { Put (module_words_in w sections.now bound) out.old out.new result }
+fn put_module(out: &mut [u32], sections: &[u32], u: Used, bound: u32) -> usize
+    requires { Roomy u sections.now × (module_count u ≤ length out.old) }
+    ensures { Put (module_words_in u sections.now bound) out.old out.new result }
 {
-    let k = w.capabilities;
+    let k = u.capabilities;
     let first = put_front(out, bound, &sections[..k]);
-    put_section(&mut out[first..], sections, NAMES * w.bytes, w.names);
-    let second = first + w.names;
+    put_section(&mut out[first..], sections, NAMES * u.bytes, u.names);
+    let second = first + u.names;
     put_section(
         &mut out[second..],
         sections,
-        ANNOTATIONS * w.bytes,
-        w.annotations,
+        ANNOTATIONS * u.bytes,
+        u.annotations,
     );
-    let third = second + w.annotations;
+    let third = second + u.annotations;
     put_section(
         &mut out[third..],
         sections,
-        DECLARATIONS * w.bytes,
-        w.declarations,
+        DECLARATIONS * u.bytes,
+        u.declarations,
     );
-    third + w.declarations
+    third + u.declarations
 }
 
 // Tests 15 and 16, and then the module; a refusal writes nothing.
-pub fn write_module(out: &mut [u32], sections: &[u32], w: Writer) -> Result<Module, Refusal>
-    requires { Roomy w sections.now }
-    ensures { Finished w sections.now out.old result out.new }
+pub fn write_module(out: &mut [u32], w: &Writer<'_, '_>) -> Result<Module, Refusal>
+    requires { Roomy w.now.used w.now.sections.now }
+    ensures { Finished w.now out.old result out.new }
 {
-    let g = w.idgen;
-    if BOUND_MOST <= g.last {
+    let last = w.used.idgen.last;
+    if BOUND_MOST <= last {
         return Err(Refusal::Bound);
     }
-    let n = module_count(w);
+    let n = module_count(w.used);
     if out.len() < n {
         return Err(Refusal::BufferLength);
     }
-    let bound = (g.last + 1) as u32;
-    put_module(out, sections, w, bound);
+    let bound = (last + 1) as u32;
+    put_module(out, w.sections, w.used, bound);
     Ok(Module { words: n, bound })
 }

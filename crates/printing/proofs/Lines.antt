@@ -6,6 +6,7 @@ use native.Mathlib.Numerals.{add-one}
 use native.Mathlib.Omega.{arith}
 use lib.ListN.{length, get_or, take, set, length-append}
 use lib.Seq.{sets, take-suc, length-take-le}
+use Rattle.std.proofs.Math.Seq.{take-length}
 use Rattle.printing.specs.Text.{newline, digit_of, digits, line_of, lines_of, digit_count, refused_text, refusal_of, PutText, Printed}
 use Rattle.printing.proofs.Runs.{sets-append, behind, ahead, printed}
 
@@ -55,11 +56,11 @@ one_line l ws i h =
     (sym (lines_snoc (take i ws) (get_or ws i 0)) ∙ ap lines_of (sym (take-suc ws i 0 h) ∙ ap (λ (n : ℕ). take n ws) (sym (add-one i))))
 
 -- all of them are put
-pub all_lines : (l ws text : List ℕ) (i n : ℕ) → text ≡ sets l 0 (lines_of (take i ws)) → i ≡ n → n ≤ length ws → 9 * n ≤ length l
-    → Printed (lines_of (take n ws)) l text (9 * n)
-all_lines l ws text i n e k h room =
-    printed (lines_of (take n ws)) l text (9 * n)
-    (e ∙ ap (λ (j : ℕ). sets l 0 (lines_of (take j ws))) k) (omega (arith, lines-length (take n ws), length-take-le n ws h)) room
+pub all_lines : (l ws text : List ℕ) (i : ℕ) → text ≡ sets l 0 (lines_of (take i ws)) → i ≡ length ws → 9 * length ws ≤ length l
+    → Printed (lines_of ws) l text (9 * length ws)
+all_lines l ws text i e k room =
+    printed (lines_of ws) l text (9 * length ws)
+    (e ∙ ap (λ (j : ℕ). sets l 0 (lines_of (take j ws))) k ∙ ap (λ (xs : List ℕ). sets l 0 (lines_of xs)) (take-length ws)) (omega (arith, lines-length ws)) room
 
 -- ---- a refusal's line, put in three steps
 

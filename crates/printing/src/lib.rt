@@ -44,16 +44,16 @@ fn put_line(text: &mut [u8], at: usize, w: u32)
     text[at + 8] = NEWLINE;
 }
 
-// Puts the first n words at the front of the text, a word a line, and says how many bytes they take.
-pub fn put_lines(text: &mut [u8], words: &[u32], n: usize) -> usize
-    requires { (n ≤ length words.now) × (9 * n ≤ length text.old) }
-    ensures printed { Printed (lines_of (take n words.now)) text.old text.new result }
-    ensures value { result ≡ 9 * n }
+// Puts words at the front of the text, a word a line, and says how many bytes they take.
+pub fn put_lines(text: &mut [u8], words: &[u32]) -> usize
+    requires { 9 * length words.now ≤ length text.old }
+    ensures printed { Printed (lines_of words.now) text.old text.new result }
+    ensures value { result ≡ 9 * length words.now }
 {
-    for i in 0..n {
+    for i in 0..words.len() {
         put_line(text, 9 * i, words[i]);
     }
-    9 * n
+    9 * words.len()
 }
 
 // Puts bytes at a place, and says which place is behind them.

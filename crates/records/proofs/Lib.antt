@@ -1,5 +1,5 @@
 pub mod Chain
 pub mod Places
 pub mod Loop
-pub mod Types
+pub mod Entries
 pub mod Ranks

@@ -6,6 +6,7 @@ use Rattle.definition.specs.Bytes.{name_end}
 use Rattle.definition.specs.Sheet.{Record, record_at, TypeEntry, type_entry, type_fields, Function, Expression, constant_fields, Global, global_fields, Remap, remap_fields, available_fields}
 use Rattle.definition.specs.Tests.{Seen, remaps_most, types_most, functions_most, constants_most, globals_most}
 use Rattle.records.specs.declared.Counts.{Counts}
+use Rattle.records.specs.declared.Earlier.{Earlier}
 
 -- the record at a place of the sheet, and the entry that it is, by its kind
 abbrev pub record_from : List ℕ → ℕ → Record
@@ -29,6 +30,14 @@ type_from s at = type_of_record (record_from s at)
 -- the first n types, of their places
 abbrev pub types_from : List ℕ → List ℕ → ℕ → List TypeEntry
 types_from s types n = map (type_from s) (take n types)
+
+-- the types, of the places of those that were read before
+abbrev pub types_in : Earlier → List TypeEntry
+types_in e = map (type_from e.sheet.now) e.places.now
+
+-- the remaps, of the places of those that were read before
+abbrev pub remaps_in : Earlier → List Remap
+remaps_in e = map (remap_from e.sheet.now) e.places.now
 
 abbrev pub constant_from : List ℕ → ℕ → Expression
 constant_from s at = (constant_fields (record_from s at).tag (record_from s at).body).value

@@ -2,7 +2,7 @@
 // Decides tests 1 to 7 of document 01. A record's body is handed on as that part of the sheet, and not looked into here.
 #![tactic(auto)]
 
-ghost use Rattle.std.specs.Prelude.{◌≡◌, Some, ◌+◌, ◌<◌, drop};
+ghost use Rattle.std.specs.Prelude.{◌≡◌, Some, MatchOption, ◌+◌, ◌<◌, ◌≤◌, length, drop, get_or};
 ghost use Rattle.definition.specs.Bytes.{u16_at};
 ghost use Rattle.definition.specs.Sheet.{flags_of, options_of, record_at, tag_rank};
 ghost use Rattle.definition.specs.Tests.{Seen, header_test, no_record, out_of_order, room, place_test};
@@ -105,6 +105,24 @@ pub fn rest_at(sheet: &[u8], at: usize) -> &[u8]
     fields::part(sheet, at, sheet.len())
 }
 
+// The entries of one kind that were read before: where each stands in the sheet.
+#[derive(Clone, Copy)]
+pub struct Earlier<'a> {
+    pub sheet: &'a [u8],
+    pub places: &'a [u32],
+}
+
+impl<'a> Earlier<'a> {
+    // What is left of the sheet from the record of the i-th of them on, where there are so many.
+    pub fn rest_at(self, index: usize) -> Option<&'a [u8]>
+        ensures { MatchOption result (length self.entry.places.now ≤ index) (λ r. (index < length self.entry.places.now) × (r.now ≡ drop (get_or self.entry.places.now index 0) self.entry.sheet.now)) }
+    {
+        self.places
+            .get(index)
+            .map(|place| rest_at(self.sheet, *place as usize))
+    }
+}
+
 // Test 4: whether no whole record stands at the front of what is left.
 pub fn no_record(rest: &[u8]) -> bool
     ensures { result ≡ no_record rest.now }
@@ -137,7 +155,7 @@ pub fn body_of(rest: &[u8]) -> &[u8]
     fields::part(rest, 3, n - 1)
 }
 
-// The place behind the record that stands at `at`, at the front of `rest`.
+// The place behind the record that stands at `at`, at the front of `rest`. Places have 32 bits; whoever adds to one asks for that.
 pub fn next_place(rest: &[u8], at: usize) -> usize
     requires { at < 4294967296 }
     ensures { result ≡ at + (2 + u16_at rest.now 0) }

@@ -1,4 +1,4 @@
--- Test 12. A search for an entry among the first n places, one place a turn: one set of laws for whatever is looked for.
+-- Test 12. A search for an entry among places, one place a turn: one set of laws for whatever is looked for.
 -- Then two records by their tags and bodies.
 use Prim.Native.Nat.{ℕ, zero, suc, ◌+◌, ◌-◌, ◌≤◌, ◌<◌}
 use mathlib.Core.Path.{◌≡◌, refl, ap, sym, subst, ◌∙◌}
@@ -10,8 +10,8 @@ use native.Mathlib.Omega.{arith}
 use borrow.Author.Tests.{eq-eqb, ne_eqb}
 use lib.Dec.{T, eqb}
 use Rattle.definition.proofs.Same.{same_bytes_lem}
-use lib.ListN.{length, get_or, take, drop, drop_of_length-le}
-use lib.Seq.{drop-cons, get_or-take, length-take-le}
+use lib.ListN.{length, get_or, drop, drop_of_length-le}
+use lib.Seq.{drop-cons}
 use Rattle.definition.specs.Choice.{pick}
 use Rattle.definition.specs.Bytes.{u32_at}
 use Rattle.definition.specs.Sheet.{Record, remap_fields}
@@ -27,30 +27,28 @@ pub record Search (F : List ℕ → Bool) (P : ℕ → Bool) : Type 0 where
   pub none : F [] ≡ false
   pub more : (o : ℕ) (os : List ℕ) → F (o ∷ os) ≡ pick (P o) true (F os)
 
-module _ {F : List ℕ → Bool} {P : ℕ → Bool} (w : Search F P) (places : List ℕ) (n i : ℕ) (room : n ≤ length places) where
-  step : i < n → F (drop i (take n places)) ≡ pick (P (get_or places i 0)) true (F (drop (i + 1) (take n places)))
-  step h =
-      ap F (drop_at (take n places) i (rw (length-take-le n places room) h) ∙ ap (λ (o : ℕ). o ∷ drop (i + 1) (take n places)) (get_or-take n places i 0 h))
-      ∙ w.more _ _
+module _ {F : List ℕ → Bool} {P : ℕ → Bool} (w : Search F P) (places : List ℕ) (i : ℕ) where
+  step : i < length places → F (drop i places) ≡ pick (P (get_or places i 0)) true (F (drop (i + 1) places))
+  step h = ap F (drop_at places i h) ∙ w.more _ _
 
-  pub skip : i < n → P (get_or places i 0) ≡ false → F (drop i (take n places)) ≡ F (drop (i + 1) (take n places))
+  pub skip : i < length places → P (get_or places i 0) ≡ false → F (drop i places) ≡ F (drop (i + 1) places)
   skip h e = step h ∙ rw e
 
-  pub hit : i < n → P (get_or places i 0) ≡ true → F (drop i (take n places)) ≡ true
+  pub hit : i < length places → P (get_or places i 0) ≡ true → F (drop i places) ≡ true
   hit h e = step h ∙ rw e
 
-  pub none_left : n ≤ i → F (drop i (take n places)) ≡ false
-  none_left h = ap F (drop_of_length-le (take n places) {i = i} (rw (length-take-le n places room) h)) ∙ w.none
+  pub none_left : length places ≤ i → F (drop i places) ≡ false
+  none_left h = ap F (drop_of_length-le places {i = i} h) ∙ w.none
 
 -- and so are all from i to r
-pub skip_to : {F : List ℕ → Bool} {P : ℕ → Bool} (w : Search F P) (places : List ℕ) (n i r : ℕ) → n ≤ length places → i ≤ r → r ≤ n
-    → ((j : ℕ) → i ≤ j → j < r → P (get_or places j 0) ≡ false) → F (drop i (take n places)) ≡ F (drop r (take n places))
-skip_to {F} {P} w places n i r room lo hi e = let q : i + (r - i) ≡ r = omega arith in go (r - i) (omega arith) ∙ ap (λ (j : ℕ). F (drop j (take n places))) q
+pub skip_to : {F : List ℕ → Bool} {P : ℕ → Bool} (w : Search F P) (places : List ℕ) (i r : ℕ) → i ≤ r → r ≤ length places
+    → ((j : ℕ) → i ≤ j → j < r → P (get_or places j 0) ≡ false) → F (drop i places) ≡ F (drop r places)
+skip_to {F} {P} w places i r lo hi e = let q : i + (r - i) ≡ r = omega arith in go (r - i) (omega arith) ∙ ap (λ (j : ℕ). F (drop j places)) q
   where
-    go : (k : ℕ) → i + k ≤ r → F (drop i (take n places)) ≡ F (drop (i + k) (take n places))
+    go : (k : ℕ) → i + k ≤ r → F (drop i places) ≡ F (drop (i + k) places)
     go zero h = rw (add-zero i) refl
     go (suc k) h = let q : i + k + 1 ≡ i + suc k = omega arith in
-        go k (omega arith) ∙ skip w places n (i + k) room (omega arith) (e (i + k) (omega arith) (omega arith)) ∙ ap (λ (j : ℕ). F (drop j (take n places))) q
+        go k (omega arith) ∙ skip w places (i + k) (omega arith) (e (i + k) (omega arith) (omega arith)) ∙ ap (λ (j : ℕ). F (drop j places)) q
 
 pub types : (s : List ℕ) (r : Record) → Search (λ os. type_read r (map (type_from s) os)) (λ o. same_record (record_from s o) r)
 unfolding type_read

@@ -5,6 +5,7 @@ use Rattle.definition.specs.Bytes.{u32_at}
 use Rattle.definition.specs.Sheet.{Record, tag_rank}
 use Rattle.definition.specs.Tests.{types_most}
 use Rattle.records.specs.Places.{record_from}
+use Rattle.records.specs.declared.Earlier.{Earlier}
 
 -- one word more
 abbrev pub hash_step : ℕ → ℕ → ℕ
@@ -27,6 +28,11 @@ HashFor r h = tag_rank r.tag ≡ 3 → h ≡ hash_of r
 abbrev pub Hashed : List ℕ → List ℕ → ℕ → Type 0
 Hashed s ts n = (i : ℕ) → i < n → get_or ts (types_most + i) 0 ≡ hash_of (record_from s (get_or ts i 0))
 
--- none of the types from i to r has the hash h
+-- hs are the hashes of the types of e, one of each
+pub record HashesOf (e : Earlier) (hs : List ℕ) : Type 0 where
+  pub long : length hs ≡ length e.places.now
+  pub each : (i : ℕ) → i < length hs → get_or hs i 0 ≡ hash_of (record_from e.sheet.now (get_or e.places.now i 0))
+
+-- none of the hashes from i to r is h
 abbrev pub Unlike : List ℕ → ℕ → ℕ → ℕ → Type 0
-Unlike ts h i r = (j : ℕ) → i ≤ j → j < r → get_or ts (types_most + j) 0 ≡ h → ⊥
+Unlike hs h i r = (j : ℕ) → i ≤ j → j < r → get_or hs j 0 ≡ h → ⊥

@@ -3,9 +3,26 @@ use Rattle.std.specs.Prelude.{ℕ, ◌+◌, ◌<◌, ◌≡◌, List, eqb, lengt
 use Rattle.definition.specs.Choice.{pick}
 use Rattle.definition.specs.Sheet.{Function, tag_rank}
 use Rattle.definition.specs.Tests.{reading_test, add_record, types_most}
-use Rattle.records.specs.Places.{Places, seen_of, record_from, Ample, WithinLimits}
+use Rattle.records.specs.Places.{Places, places_of, seen_of, record_from, Ample, WithinLimits}
 use Rattle.records.specs.declared.Counts.{Counts}
 use Rattle.sheet.specs.Hash.{Hashed}
+use Rattle.sheet.specs.declared.holding.Holding.{Holding}
+
+-- the places that are held
+abbrev pub places_in : Holding → Places
+places_in h = places_of h.remaps.now h.types.now h.constants.now h.globals.now
+
+-- it holds the same sheet, and its places in the same slices, which are as long as before
+pub record SameHeld (h g : Holding) : Type 0 where
+  pub sheet : g.sheet.now ≡ h.sheet.now
+  pub remaps : g.remaps.ghost_name ≡ h.remaps.ghost_name
+  pub types : g.types.ghost_name ≡ h.types.ghost_name
+  pub constants : g.constants.ghost_name ≡ h.constants.ghost_name
+  pub globals : g.globals.ghost_name ≡ h.globals.ghost_name
+  pub remaps_long : length g.remaps.now ≡ length h.remaps.now
+  pub types_long : length g.types.now ≡ length h.types.now
+  pub constants_long : length g.constants.now ≡ length h.constants.now
+  pub globals_long : length g.globals.now ≡ length h.globals.now
 
 -- before the first record
 abbrev pub no_counts : Counts

@@ -1,16 +1,15 @@
 // Test 12: a type equal to an earlier one in name and all fields, or a remap of a group and binding already remapped. A function
 // equal to an earlier one is fit.
 // A record that passed test 8 is its fields, each in its one form, so types are equal if their tags and bodies are.
-ghost use Rattle.std.specs.Prelude.{◌≡◌, false, map, ◌+◌, ◌≤◌, ◌<◌, length, take};
-ghost use Rattle.definition.specs.Sheet.{remap_fields, entry_of};
-ghost use Rattle.definition.specs.Tests.{Seen, types_most, type_read, remap_read, repeated};
-ghost use Rattle.records.specs.Places.{type_from, remap_from};
+ghost use Rattle.std.specs.Prelude.{◌≡◌, false, ◌+◌, ◌≤◌, ◌<◌, length};
+ghost use Rattle.definition.specs.Sheet.{remap_fields};
+ghost use Rattle.definition.specs.Tests.{type_read, remap_read};
+ghost use Rattle.records.specs.Places.{types_in, remaps_in};
 ghost use Rattle.sheet_fields.specs.Fields.{record_of};
-ghost use Rattle.sheet.specs.Hash.{hash_of, HashFor, Hashed, Unlike};
-ghost use Rattle.sheet.specs.Reading.{Looked, Stored};
+ghost use Rattle.sheet.specs.Hash.{hash_of, HashesOf, Unlike};
 ghost use Rattle.std.specs.Option.{MatchOption};
 
-use records::{Counts, Rank, TYPES_MOST};
+use records::Earlier;
 
 // Where the name and the fixed fields of a type end, and the members of a struct begin.
 fn fixed_end(t: u8, b: &[u8]) -> usize
@@ -37,49 +36,50 @@ fn member_end(b: &[u8], p: usize) -> usize
     if end < b.len() { end } else { b.len() }
 }
 
-// Whether one of the eight types from j on has the hash h. All eight are compared before there is a choice, which the compiler makes
-// into few instructions.
-fn one_alike(types: &[u32], j: usize, h: u32) -> bool
-    requires { types_most + j + 8 ≤ length types.now }
-    ensures { result ≡ false → Unlike types.now h j (j + 8) }
+// Whether one of the eight hashes from j on is h. All eight are compared before there is a choice, which the compiler makes into few
+// instructions.
+fn one_alike(hashes: &[u32], j: usize, h: u32) -> bool
+    requires { j + 8 ≤ length hashes.now }
+    ensures { result ≡ false → Unlike hashes.now h j (j + 8) }
 {
     let mut alike = false;
-    for hash in &types[TYPES_MOST + j..TYPES_MOST + j + 8] {
+    for hash in &hashes[j..j + 8] {
         alike |= *hash == h;
     }
     alike
 }
 
-// The first type from i to n with the hash h. Eight are passed over a turn, as long as none of them has it.
-fn next_alike(types: &[u32], i: usize, n: usize, h: u32) -> Option<usize>
-    requires { (i ≤ n) × (types_most + n ≤ length types.now) }
-    ensures { MatchOption result (Unlike types.now h i n) (λ j. (i ≤ j) × ((j < n) × Unlike types.now h i j)) }
+// The first of the hashes from i on that is h. Eight are passed over a turn, as long as none of them is.
+fn next_alike(hashes: &[u32], i: usize, h: u32) -> Option<usize>
+    requires { i ≤ length hashes.now }
+    ensures { MatchOption result (Unlike hashes.now h i (length hashes.now)) (λ j. (i ≤ j) × ((j < length hashes.now) × Unlike hashes.now h i j)) }
 {
+    let n = hashes.len();
     let mut from = i;
-    'eights: while 8 <= n - from && !one_alike(types, from, h) {
+    'eights: while 8 <= n - from && !one_alike(hashes, from, h) {
         from += 8;
     }
     for j in from..n {
-        if types[TYPES_MOST + j] == h {
+        if hashes[j] == h {
             return Some(j);
         }
     }
     None
 }
 
-// Whether one of the first n types has tag t and body b, of which the hash is given: the search is left at the first that is equal,
-// and a type at the first member that differs. Hashes, in which nearly all differ, are compared before all else.
-fn type_read(s: &[u8], types: &[u32], n: usize, t: u8, b: &[u8], hash: u32) -> bool
-    requires { (types_most + n ≤ length types.now) × (Hashed s.now types.now n × (hash ≡ hash_of (record_of t b.now))) }
-    ensures { result ≡ type_read (record_of t b.now) (map (type_from s.now) (take n types.now)) }
+// Whether one of the types has tag t and body b, of which the hash is given: the search is left at the first that is equal, and a
+// type at the first member that differs. Hashes, in which nearly all differ, are compared before all else.
+pub fn type_read(types: Earlier<'_>, hashes: &[u32], t: u8, b: &[u8], hash: u32) -> bool
+    requires { HashesOf types hashes.now × (hash ≡ hash_of (record_of t b.now)) }
+    ensures { result ≡ type_read (record_of t b.now) (types_in types.entry) }
 {
     let fixed = fixed_end(t, b);
     let mut read = false;
     let mut from = 0;
     // No `for`, since the entries are not taken one after the other, but those with the hash.
-    'entries: while let Some(i) = next_alike(types, from, n, hash) {
+    'entries: while let Some(i) = next_alike(hashes, from, hash) {
         from = i + 1;
-        let rest = records::rest_at(s, types[i] as usize);
+        let rest = records::rest_at(types.sheet, types.places[i] as usize);
         if records::tag_of(rest) != t {
             continue 'entries;
         }
@@ -103,15 +103,14 @@ fn type_read(s: &[u8], types: &[u32], n: usize, t: u8, b: &[u8], hash: u32) -> b
     read
 }
 
-// Whether one of the first n remaps has the group and the binding of the body b.
+// Whether one of the remaps has the group and the binding of the body b.
 #[tactic(auto, using(crate::proofs::Earlier::remap_turn, crate::proofs::Earlier::remap_end))]
-fn remap_read(s: &[u8], remaps: &[u32], n: usize, b: &[u8]) -> bool
-    requires { n ≤ length remaps.now }
-    ensures { result ≡ remap_read (remap_fields b.now).value (map (remap_from s.now) (take n remaps.now)) }
+pub fn remap_read(remaps: Earlier<'_>, b: &[u8]) -> bool
+    ensures { result ≡ remap_read (remap_fields b.now).value (remaps_in remaps.entry) }
 {
     let mut read = false;
-    'entries: for &place in &remaps[..n] {
-        let e = records::body_of(records::rest_at(s, place as usize));
+    'entries: for &place in remaps.places {
+        let e = records::body_of(records::rest_at(remaps.sheet, place as usize));
         if fields::u32_at(e, 0) != fields::u32_at(b, 0) {
             continue 'entries;
         }
@@ -122,26 +121,4 @@ fn remap_read(s: &[u8], remaps: &[u32], n: usize, b: &[u8]) -> bool
         break 'entries;
     }
     read
-}
-
-// Test 12 of a record of tag t and body b.
-#[tactic(auto, unfolding(definition::specs::Sheet::entry_of))]
-pub fn is_repeated(
-    sheet: &[u8],
-    remaps: &[u32],
-    types: &[u32],
-    counts: Counts,
-    tag: u8,
-    body: &[u8],
-    hash: u32,
-) -> bool
-    requires { Stored sheet.now remaps.now types.now counts × HashFor (record_of tag body.now) hash }
-    ensures { (n : Seen) → Looked sheet.now remaps.now types.now counts n → result ≡ repeated n (entry_of (record_of tag body.now)).value }
-{
-    match records::rank_of(tag) {
-        Some(Rank::Remaps) => remap_read(sheet, remaps, counts.remaps, body),
-        Some(Rank::Types) => type_read(sheet, types, counts.types, tag, body, hash),
-        Some(Rank::Functions) => false,
-        _ => false,
-    }
 }

@@ -83,6 +83,7 @@ fn compose_read(b: &[u8], types: usize, constants: usize) -> bool
     one_below(b, 0, types) && each_below(b, 4, fields::u16_at(b, 2), constants)
 }
 
+// `types` and `constants` are how many were read.
 pub fn read_already(tag: u8, body: &[u8], types: usize, constants: usize) -> bool
     ensures { result ≡ (below types (expression_types (constant_fields tag body.now).value) && below constants (expression_constants (constant_fields tag body.now).value)) }
 {

@@ -21,39 +21,35 @@ use Rattle.records.specs.declared.Counts.{Counts}
 use Rattle.records.specs.Places.{Places, seen_of, Ample, WithinLimits, record_from}
 use Rattle.records.proofs.Places.{header_size, whole}
 use Rattle.records.proofs.Loop.{Going, start, goes_on, next_inside, ends_fit, ends_four, ends_refused, judge_go}
+use Rattle.sheet.specs.declared.holding.Holding.{Holding}
 use Rattle.sheet.specs.Hash.{HashFor, Hashed}
-use Rattle.sheet.specs.Holding.{no_counts, add_counts, PassedAt, RecordHeld as Kept}
+use Rattle.sheet.specs.Holding.{SameHeld, no_counts, add_counts, PassedAt, RecordHeld as Kept}
 use Rattle.sheet.proofs.Told.{told, function_long}
 use Rattle.sheet.proofs.Adding.{looked, stored, counted, placed_of, rank_most}
 use Rattle.zeroable.specs.Memo.{Memo}
 use Rattle.availability.specs.declared.Available.{Available}
 use Rattle.availability.specs.Flags.{Flagged}
 use Rattle.zeroable.proofs.Kept.{grows, empty as nothing_known}
+use Rattle.writer.specs.declared.Used.{Used}
 use Rattle.writer.specs.declared.Writer.{Writer}
 use Rattle.writer.specs.Held.{Held, Room, Grown}
-use Rattle.writer.specs.Steps.{fresh}
+use Rattle.writer.specs.Steps.{Emptied}
 use Rattle.std.specs.Prelude.{Result, Ok, Err}
 use Rattle.refusals.specs.declared.Refusal.{Refusal}
 use Rattle.refusals.specs.Numbers.{number_of, test_number}
 use Rattle.refusals.proofs.Tests.{not_zero}
-use Rattle.sheet_writer.specs.Turning.{Before, Ready, RecordWritten, cost_at}
+use Rattle.sheet_writer.specs.Turning.{Before, ReadyIn, RecordWritten, WrittenIn, cost_at}
 use Rattle.sheet_writer.specs.Whole.{records_of, before_bound, Capacity, GlobalsFit, SheetFits}
 use Rattle.sheet_writer.proofs.Given.{global_long}
-use Rattle.sheet_writer.proofs.Rooms.{Used, no_room, roomy}
+use Rattle.sheet_writer.proofs.Rooms.{Spent, no_room, roomy}
 
 -- what was read and what the rules have come to
 abbrev pub progress_of : List ℕ → Places → Counts → List Function → State → Progress
 progress_of s p k fs x = record { seen = seen_of s p k fs; state = x }
 
 -- at the loop's head
-pub record Holds (s T₀ S₀ m₀ : List ℕ) (p₀ : Places) (nr nb : ℕ) (T S m : List ℕ) (p : Places) (at : ℕ) (k : Counts) (v : Available) (w : Writer) : Type 0 where
-  pub tables : length T ≡ length T₀
-  pub sections : length S ≡ length S₀
+pub record Holds (s : List ℕ) (x : Writer) (m₀ m : List ℕ) (p : Places) (at : ℕ) (k : Counts) (v : Available) (w : Writer) : Type 0 where
   pub memo-length : length m ≡ length m₀
-  pub remaps : length p.remaps ≡ length p₀.remaps
-  pub types : length p.types ≡ length p₀.types
-  pub constants : length p.constants ≡ length p₀.constants
-  pub globals : length p.globals ≡ length p₀.globals
   pub ample : Ample p
   pub few : WithinLimits k
   pub hashed : Hashed s p.types k.types
@@ -61,30 +57,24 @@ pub record Holds (s T₀ S₀ m₀ : List ℕ) (p₀ : Places) (nr nb : ℕ) (T 
   pub function_count : length functions ≡ k.functions
   pub available : Flagged (seen_of s p k functions).available v
   pub small : length s ≤ 16384
-  pub used : Used nr nb at k w
+  pub used : Spent x at k w
   pub memo : Memo (seen_of s p k functions).types m
   pub globals_fit : GlobalsFit (seen_of s p k functions)
   pub state : State
-  pub held : Held w T S state
+  pub held : Held w state
   pub going : Going record_test (declare_record (options_of (flags_of s))) (records_of s) s at (progress_of s p k functions state)
 
 -- what was read, as a turn asks for it
 pub before : (s : List ℕ) (p : Places) (k : Counts) (fs : List Function) (v : Available) → Ample p → WithinLimits k → length fs ≡ k.functions → Flagged (seen_of s p k fs).available v → Before s p.remaps p.types k v (seen_of s p k fs)
 before s p k fs v a f e h = record { looked = looked s p k fs a f e; available = h }
 
-pub begins : (s T S m : List ℕ) (p : Places) (nr nb start' : ℕ) (k : Counts) (v : Available) (w : Writer) → header_test s ≡ 0 → Ample p → ((j : ℕ) → get_or m j 0 ≡ 0) → k ≡ no_counts → Flagged None v
-    → start' ≡ start_of s → start' ≤ 4294967295 → w ≡ fresh nr nb start' → Held w T S (empty start') → Holds s T S m p nr nb T S m p 6 k v w
+pub begins : (s m : List ℕ) (p : Places) (start' : ℕ) (k : Counts) (v : Available) (x w : Writer) → header_test s ≡ 0 → Ample p → ((j : ℕ) → get_or m j 0 ≡ 0) → k ≡ no_counts → Flagged None v
+    → start' ≡ start_of s → start' ≤ 4294967295 → Emptied start' x w → Holds s w m m p 6 k v w
 unfolding space_fits binding_fits
-begins s T S m p nr nb start' k v w h a e ek ev es low ew held =
+begins s m p start' k v x w h a e ek ev es low emptied =
     let z = header_size s h in
     rw ek (record {
-      tables = refl;
-      sections = refl;
       memo-length = refl;
-      remaps = refl;
-      types = refl;
-      constants = refl;
-      globals = refl;
       ample = a;
       few = record { remaps = omega arith; types = omega arith; functions = omega arith; constants = omega arith; globals = omega arith };
       hashed = λ i l. absurd (omega arith);
@@ -92,13 +82,59 @@ begins s T S m p nr nb start' k v w h a e ek ev es low ew held =
       function_count = refl;
       available = ev;
       small = z.1;
-      used = rw ew (omega arith);
+      used = record {
+        lent = record { tables = refl; sections = refl; tables_long = refl; sections_long = refl };
+        records = refl;
+        bytes = refl;
+        each = omega arith;
+        types = rw emptied.fresh.used (omega arith);
+        literals = rw emptied.fresh.used (omega arith);
+        nulls = rw emptied.fresh.used (omega arith);
+        values = rw emptied.fresh.used (omega arith);
+        composites = rw emptied.fresh.used (omega arith);
+        blocked = rw emptied.fresh.used (omega arith);
+        parts = rw emptied.fresh.used (omega arith);
+        capabilities = rw emptied.fresh.used (omega arith);
+        names = rw emptied.fresh.used (omega arith);
+        annotations = rw emptied.fresh.used (omega arith);
+        declarations = rw emptied.fresh.used (omega arith);
+        last = rw emptied.fresh.used (omega arith);
+      };
       memo = nothing_known [] m (omega arith) e;
       globals_fit = λ i. refl;
       state = empty (start_of s);
-      held = subst (λ (j : ℕ). Held w T S (empty j)) es held;
+      held = subst (λ (j : ℕ). Held w (empty j)) es emptied.fresh.held;
       going = start record_test (declare_record (options_of (flags_of s))) s 6 (progress_of s p no_counts [] (empty (start_of s))) z.0;
     })
+
+-- a turn in what is held of a sheet, by the sheet itself and by its options
+pub written_in : {s : List ℕ} (g : Holding) (a : Available) (rest : List ℕ) {o p : Options} {w v : Writer} {r : Result (Unit {0}) Refusal} {m : List ℕ} → g.sheet.now ≡ s → o ≡ p
+    → RecordWritten g a rest o w r v m → WrittenIn s g.remaps.now g.types.now g.counts a rest p w r v m
+written_in g a rest {w = w} {v = v} {r = r} {m = m} e f t = subst (λ (x : List ℕ × Options). WrittenIn x.0 g.remaps.now g.types.now g.counts a rest x.1 w r v m) (λ i. (e i, f i)) t
+
+pub still_held : {g h i : Holding} → SameHeld g h → SameHeld h i → SameHeld g i
+still_held p q = record {
+  sheet = q.sheet ∙ p.sheet;
+  remaps = q.remaps ∙ p.remaps;
+  types = q.types ∙ p.types;
+  constants = q.constants ∙ p.constants;
+  globals = q.globals ∙ p.globals;
+  remaps_long = q.remaps_long ∙ p.remaps_long;
+  types_long = q.types_long ∙ p.types_long;
+  constants_long = q.constants_long ∙ p.constants_long;
+  globals_long = q.globals_long ∙ p.globals_long;
+}
+
+-- emptied, a writer has the room that it had
+pub same_room : {s m : List ℕ} {st : ℕ} {x w : Writer} → Emptied st x w → Capacity s x m → Capacity s w m
+same_room e cap = record {
+  for_bytes = rw e.fresh.used cap.for_bytes;
+  for_records = rw e.fresh.used cap.for_records;
+  tables = rw e.fresh.used (omega (arith, cap.tables, e.lent));
+  sections = rw e.fresh.used (omega (arith, cap.sections, e.lent));
+  memo = cap.memo;
+  memo-length = cap.memo-length;
+}
 
 -- a memo speaks of the types read, and has a place for each; what is no type changes nothing
 memo_added : (n : Seen) (r : ℕ) (e : Entry) (m : List ℕ) → length (add n r e).types ≤ length m → Memo n.types m → Memo (add n r e).types m
@@ -128,8 +164,8 @@ record_length rest e =
     let l = length-take-le (u16_at rest 0 - 1) (drop 3 rest) (simp length-drop (omega (arith, z.0, z.1))) in
     (omega (arith, l, z.0), omega (arith, z.0))
 
-module _ (s T₀ S₀ m₀ : List ℕ) (p₀ : Places) (nr nb : ℕ) (T S m : List ℕ) (p : Places) (at : ℕ) (k : Counts) (v : Available) (w : Writer)
-    (h : Holds s T₀ S₀ m₀ p₀ nr nb T S m p at k v w) (cap : Capacity s nr nb T₀ S₀ m₀) (ok : header_test s ≡ 0) where
+module _ (s : List ℕ) (x : Writer) (m₀ m : List ℕ) (p : Places) (at : ℕ) (k : Counts) (v : Available) (w : Writer)
+    (h : Holds s x m₀ m p at k v w) (cap : Capacity s x m₀) (ok : header_test s ≡ 0) where
   abbrev o : Options
   o = options_of (flags_of s)
 
@@ -143,8 +179,8 @@ module _ (s T₀ S₀ m₀ : List ℕ) (p₀ : Places) (nr nb : ℕ) (T S m : Li
   judged : records_of s ≡ before_bound s
   judged = sym (judge_go _ _ ok)
 
-  pub fits : length s ≤ at → SheetFits s nb p T S k w
-  fits l = record {
+  pub fits : (y : Writer) {st : ℕ} → Emptied st y x → length s ≤ at → SheetFits s p y k w
+  fits y emptied l = record {
     progress = now;
     same = ends_fit record_test (declare_record o) (records_of s) s at now h.going l ∙ judged;
     functions = h.functions;
@@ -153,8 +189,8 @@ module _ (s T₀ S₀ m₀ : List ℕ) (p₀ : Places) (nr nb : ℕ) (T S m : Li
     held = h.held;
     ample = h.ample;
     few = h.few;
-    room = no_room s T S nr nb at k w h.used h.few (cap.for_bytes h.small) cap.for_records (omega (arith, cap.tables, h.tables)) (omega (arith, cap.sections, h.sections)) h.small h.going.inside;
-    size = h.used.bytes;
+    room = no_room s x at k w h.used h.few (cap.for_bytes h.small) cap.for_records cap.tables cap.sections h.small h.going.inside;
+    size = h.used.bytes ∙ ap (λ (u : Used). u.bytes) emptied.fresh.used;
   }
 
   module _ (lt : at < length s) (rest : List ℕ) (e : rest ≡ drop at s) where
@@ -175,13 +211,13 @@ module _ (s T₀ S₀ m₀ : List ℕ) (p₀ : Places) (nr nb : ℕ) (T S m : Li
       bytes_left : length rest ≤ 16384
       bytes_left = rw e (simp length-drop (omega (arith, h.small)))
 
-      tested_room : reading_test seen (record_at rest) ≡ 0 → Room (cost_at rest) w T S × ((v : Writer) → Grown (cost_at rest) w v → Used nr nb (at + l) (add_counts k (tag_rank (record_at rest).tag) at) v)
+      tested_room : reading_test seen (record_at rest) ≡ 0 → Room (cost_at rest) w × ((v : Writer) → Grown (cost_at rest) w v → Spent x (at + l) (add_counts k (tag_rank (record_at rest).tag) at) v)
       tested_room z =
           let q = placed_of seen (record_at rest) z in
-          roomy s T S nr nb at k w h.used h.few (cap.for_bytes h.small) cap.for_records (omega (arith, cap.tables, h.tables)) (omega (arith, cap.sections, h.sections)) h.small
+          roomy s x at k w h.used h.few (cap.for_bytes h.small) cap.for_records cap.tables cap.sections h.small
           seen (counted s p k h.functions h.ample h.few h.function_count) l (omega arith) inside (tag_rank (record_at rest).tag) q.ranked (rank_most (record_at rest).tag) (⊎_elim (λ e. omega (arith, function_long seen (record_at rest) e z)) (λ e. omega (arith, global_long (record_at rest) e seen z))) q.room
 
-      pub ready : (i : ℕ) → HashFor (record_at rest) i → Ready s p.remaps p.types k rest i T S m w
+      pub ready : (i : ℕ) → HashFor (record_at rest) i → ReadyIn s p.remaps p.types k rest i m w
       ready i hi = record {
         seen = seen;
         looked = looked s p k h.functions h.ample h.few h.function_count;
@@ -193,7 +229,7 @@ module _ (s T₀ S₀ m₀ : List ℕ) (p₀ : Places) (nr nb : ℕ) (T S m : Li
         room = λ z. (tested_room z).0;
       }
 
-      module _ (t : Result Writer Refusal) (T' S' m' : List ℕ) (turn : RecordWritten s p.remaps p.types k v rest o w T S t T' S' m') where
+      module _ (t : Result (Unit {0}) Refusal) (written : Writer) (m' : List ℕ) (turn : WrittenIn s p.remaps p.types k v rest o w t written m') where
         -- the definition's own test, in the state that is held
         tested : test_number t ≡ record_test now (record_at (drop at s))
         tested = rw (← e) (turn.told seen (before s p k h.functions v h.ample h.few h.function_count h.available) h.state h.held)
@@ -201,7 +237,7 @@ module _ (s T₀ S₀ m₀ : List ℕ) (p₀ : Places) (nr nb : ℕ) (T S m : Li
         pub refuses : (r : Refusal) → t ≡ Err r → refused (number_of r) ≡ before_bound s
         refuses r q = ends_refused record_test (declare_record o) (records_of s) s at now h.going lt whole_record (number_of r) (sym (ap test_number q) ∙ tested) (not_zero r) ∙ judged
 
-        module _ (written : Writer) (z : t ≡ Ok written) where
+        module _ (z : t ≡ Ok tt) where
           read : reading_test seen (record_at (drop at s)) ≡ 0
           unfolding record_test
           read = (first_passed (reading_test seen (record_at (drop at s))) _ (sym tested ∙ ap test_number z)).0
@@ -210,27 +246,19 @@ module _ (s T₀ S₀ m₀ : List ℕ) (p₀ : Places) (nr nb : ℕ) (T S m : Li
           passed = record { ample = h.ample; few = h.few; hashed = h.hashed; small = omega (arith, h.small); functions = h.functions; counted = h.function_count; tested = read }
 
           pub turns : (p' : Places) (k' : Counts) (v' : Available) (at' : ℕ) → Kept s p k at p' k' → ((n : Seen) → Flagged n.available v → Flagged (add_record n (record_at rest)).available v') → at' ≡ at + (2 + u16_at rest 0)
-              → length T' ≡ length T → length S' ≡ length S → length m' ≡ length m
-              → length p'.remaps ≡ length p.remaps → length p'.types ≡ length p.types → length p'.constants ≡ length p.constants → length p'.globals ≡ length p.globals
-              → Holds s T₀ S₀ m₀ p₀ nr nb T' S' m' p' at' k' v' written
+              → length m' ≡ length m → Holds s x m₀ m' p' at' k' v' written
           unfolding declare_record add_record
-          turns p' k' v' at' a av ea l_t l_s lm lr lt' lc lg =
+          turns p' k' v' at' a av ea lm =
               let fs = (add_record seen (record_from s at)).functions in
               let counts : length fs ≡ k'.functions = a.functions h.functions h.function_count in
               let b = looked s p k h.functions h.ample h.few h.function_count in
-              let y = turn.written written z in
-              let x = declare_entry o seen (entry_of (record_at (drop at s))).value h.state in
+              let y = turn.written z in
+              let state = declare_entry o seen (entry_of (record_at (drop at s))).value h.state in
               let u = (tested_room (rw e read)).1 written y.grown in
               let en : at' ≡ at + l = omega (arith, ea, (record_length rest one).0) in
               let places : length (seen_of s p' k' fs).types ≤ length m' = omega (arith, (counted s p' k' fs a.ample a.few counts).types, a.few.types, lm, h.memo-length, cap.memo-length) in
               record {
-                tables = l_t ∙ h.tables;
-                sections = l_s ∙ h.sections;
                 memo-length = lm ∙ h.memo-length;
-                remaps = lr ∙ h.remaps;
-                types = lt' ∙ h.types;
-                constants = lc ∙ h.constants;
-                globals = lg ∙ h.globals;
                 ample = a.ample;
                 few = a.few;
                 hashed = a.hashed;
@@ -241,7 +269,7 @@ module _ (s T₀ S₀ m₀ : List ℕ) (p₀ : Places) (nr nb : ℕ) (T S m : Li
                 used = rw (en, a.counts, ← e) u;
                 memo = subst (λ (n : Seen). Memo n.types m') (sym (a.seen h.functions)) (memo_added seen (tag_rank (record_from s at).tag) (entry_of (record_from s at)).value m' (subst (λ (n : Seen). length n.types ≤ length m') (a.seen h.functions) places) turn.memo);
                 globals_fit = subst GlobalsFit (sym (a.seen h.functions)) (fits_added seen (tag_rank (record_from s at).tag) (entry_of (record_from s at)).value (told seen (record_from s at) (entry_of (record_from s at)) refl read).values h.globals_fit);
-                state = x;
-                held = subst (λ (i : List ℕ). Held written T' S' (declare_entry o seen (entry_of (record_at i)).value h.state)) e (y.held seen b h.state h.held);
+                state = state;
+                held = subst (λ (i : List ℕ). Held written (declare_entry o seen (entry_of (record_at i)).value h.state)) e (y.held seen b h.state h.held);
                 going = rw (ea, e, a.seen h.functions) (goes_on record_test (declare_record o) (records_of s) s at now h.going lt whole_record (sym tested ∙ ap test_number z));
               }

@@ -16,7 +16,7 @@ use Rattle.sheet.specs.Holding.{add_counts}
 use Rattle.sheet.proofs.Adding.{by_rank}
 use Rattle.writer.specs.declared.Writer.{Writer}
 use Rattle.writer.specs.Cost.{no_cost, record_cost}
-use Rattle.writer.specs.Held.{Room, Grown}
+use Rattle.writer.specs.Held.{SameLent, Room, Grown}
 use Rattle.sheet_writer.specs.Turning.{entry_cost}
 
 -- the records that are declared, a function record twice: it takes six bytes at least, as a global does, whose wrapper and base may
@@ -24,44 +24,45 @@ use Rattle.sheet_writer.specs.Turning.{entry_cost}
 abbrev pub count_of : Counts → ℕ
 count_of k = k.types + 2 * k.functions + k.constants + k.globals
 
--- what is in use after `at` bytes of the sheet
-pub record Used (nr nb at : ℕ) (k : Counts) (w : Writer) : Type 0 where
-  pub records : w.records ≡ nr
-  pub bytes : w.bytes ≡ nb
+-- what is in use after `at` bytes of the sheet, where there was the writer x before it
+pub record Spent (x : Writer) (at : ℕ) (k : Counts) (w : Writer) : Type 0 where
+  pub lent : SameLent x w
+  pub records : w.used.records ≡ x.used.records
+  pub bytes : w.used.bytes ≡ x.used.bytes
   pub each : 3 * (count_of k + k.globals) ≤ at
-  pub types : w.types ≤ 4 * count_of k
-  pub literals : w.literals ≤ count_of k
-  pub nulls : w.nulls ≤ count_of k
-  pub values : w.values ≤ count_of k
-  pub composites : w.composites ≤ count_of k
-  pub blocked : w.blocked ≤ k.types + 2 * k.globals
-  pub parts : w.parts ≤ at
-  pub capabilities : w.capabilities ≤ at
-  pub names : w.names ≤ at
-  pub annotations : w.annotations ≤ 2 * at
-  pub declarations : w.declarations ≤ 3 * at
-  pub last : w.idgen.last ≤ 4294967295 + at
+  pub types : w.used.types ≤ 4 * count_of k
+  pub literals : w.used.literals ≤ count_of k
+  pub nulls : w.used.nulls ≤ count_of k
+  pub values : w.used.values ≤ count_of k
+  pub composites : w.used.composites ≤ count_of k
+  pub blocked : w.used.blocked ≤ k.types + 2 * k.globals
+  pub parts : w.used.parts ≤ at
+  pub capabilities : w.used.capabilities ≤ at
+  pub names : w.used.names ≤ at
+  pub annotations : w.used.annotations ≤ 2 * at
+  pub declarations : w.used.declarations ≤ 3 * at
+  pub last : w.used.idgen.last ≤ 4294967295 + at
 
-module _ (s T S : List ℕ) (nr nb at : ℕ) (k : Counts) (w : Writer) (u : Used nr nb at k w) (f : WithinLimits k) (small : length s ≤ nb) (recs : (length s ≤ 3 * nr) ⊎ (704 ≤ nr))
-    (tables : 20 * nr + nb ≤ length T) (sections : 7 * nb ≤ length S) (short : length s ≤ 16384) where
+module _ (s : List ℕ) (x : Writer) (at : ℕ) (k : Counts) (w : Writer) (u : Spent x at k w) (f : WithinLimits k) (small : length s ≤ x.used.bytes)
+    (recs : (length s ≤ 3 * x.used.records) ⊎ (704 ≤ x.used.records)) (tables : 20 * x.used.records + x.used.bytes ≤ length x.tables.now) (sections : 7 * x.used.bytes ≤ length x.sections.now) (short : length s ≤ 16384) where
   -- what three bytes each have paid for has a place
-  within : (x : ℕ) → 3 * x ≤ length s → x ≤ 704 → x ≤ nr
-  within x paid few = ⊎_elim (λ l. omega arith) (λ l. omega arith) recs
+  within : (n : ℕ) → 3 * n ≤ length s → n ≤ 704 → n ≤ x.used.records
+  within n paid few = ⊎_elim (λ l. omega arith) (λ l. omega arith) recs
 
-  pub no_room : at ≤ length s → Room no_cost w T S
+  pub no_room : at ≤ length s → Room no_cost w
   no_room inside = let e = within (count_of k) (omega arith) (omega arith) in let b = within (k.types + 2 * k.globals) (omega arith) (omega arith) in omega arith
 
   module _ (n : Seen) (c : Counted n k) (l : ℕ) (least : 3 ≤ l) (inside : at + l ≤ length s) where
     -- one more declared record, by which b ids get Block
-    more_room : (b : ℕ) → b ≤ 2 → 3 * b ≤ l → count_of k < 704 → Room (record_cost b l) w T S
+    more_room : (b : ℕ) → b ≤ 2 → 3 * b ≤ l → count_of k < 704 → Room (record_cost b l) w
     more_room b few paid h = let e = within (count_of k + 1) (omega arith) (omega arith) in let f = within (k.types + 2 * k.globals + b) (omega arith) (omega arith) in omega arith
 
     -- or two
-    two_room : 6 ≤ l → count_of k + 2 ≤ 704 → Room (entry_cost 4 l) w T S
+    two_room : 6 ≤ l → count_of k + 2 ≤ 704 → Room (entry_cost 4 l) w
     two_room long h = let e = within (count_of k + 2) (omega arith) (omega arith) in let f = within (k.types + 2 * k.globals) (omega arith) (omega arith) in omega arith
 
     abbrev Roomy : ℕ → Type 0
-    Roomy r = ((r ≡ 4) ⊎ (r ≡ 6) → 6 ≤ l) → room n r ≡ true → Room (entry_cost r l) w T S × ((v : Writer) → Grown (entry_cost r l) w v → Used nr nb (at + l) (add_counts k r at) v)
+    Roomy r = ((r ≡ 4) ⊎ (r ≡ 6) → 6 ≤ l) → room n r ≡ true → Room (entry_cost r l) w × ((v : Writer) → Grown (entry_cost r l) w v → Spent x (at + l) (add_counts k r at) v)
 
     roomy_1 : Roomy 1
     unfolding add_counts

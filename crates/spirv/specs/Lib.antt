@@ -4,4 +4,5 @@ pub mod Heads
 pub mod Sections
 pub mod Ids
 pub mod Opcodes
+pub mod Decorations
 pub mod Images

@@ -1,5 +1,4 @@
-// The instructions that document 01's rules show, each put into what is left of a lent buffer; their opcodes are `Op`, and the
-// decorations stand here by name. A writer's answer is how many words it put: 0 where they do not fit, and then
+// The instructions that document 01's rules show, each put into what is left of a lent buffer; their opcodes are `Op`. A writer's answer is how many words it put: 0 where they do not fit, and then
 // nothing was written. A list of ids is given as the tables hold them, and its words are taken here.
 //
 // Where an instruction takes a name or has parts, a bound on how many is required, with which the word count fits the high half
@@ -16,24 +15,7 @@ ghost use Rattle.spirv.specs.Ids.{low};
 use crate::layout::{put_head, put_list, put_plain};
 use crate::low_word;
 use crate::opcodes::Op;
-
-pub const DECORATION_BLOCK: u32 = 2;
-
-pub const DECORATION_COL_MAJOR: u32 = 5;
-
-pub const DECORATION_ARRAY_STRIDE: u32 = 6;
-
-pub const DECORATION_MATRIX_STRIDE: u32 = 7;
-
-pub const DECORATION_NON_WRITABLE: u32 = 24;
-
-pub const DECORATION_NON_READABLE: u32 = 25;
-
-pub const DECORATION_BINDING: u32 = 33;
-
-pub const DECORATION_DESCRIPTOR_SET: u32 = 34;
-
-pub const DECORATION_OFFSET: u32 = 35;
+use crate::words::Word;
 
 // ---- debug
 
@@ -53,23 +35,25 @@ pub fn member_name(sink: &mut [u32], target: u32, member: u32, bytes: &[u8]) -> 
 
 // ---- annotations
 
-pub fn decorate(sink: &mut [u32], target: u32, decoration: u32, operands: &[u32]) -> usize
+pub fn decorate<D: Word>(sink: &mut [u32], target: u32, decoration: D, operands: &[u32]) -> usize
     requires { FitsWordCount operands.now }
-    ensures { Put (words (decorate target decoration operands.now)) sink.old sink.new result }
+    ensures { Put (words (decorate target (D.as_word decoration) operands.now)) sink.old sink.new result }
 {
+    let decoration = decoration.word();
     put_list(sink, Op::Decorate, &[target, decoration], operands)
 }
 
-pub fn member_decorate(
+pub fn member_decorate<D: Word>(
     sink: &mut [u32],
     target: u32,
     member: u32,
-    decoration: u32,
+    decoration: D,
     operands: &[u32],
 ) -> usize
     requires { FitsWordCount operands.now }
-    ensures { Put (words (member_decorate target member decoration operands.now)) sink.old sink.new result }
+    ensures { Put (words (member_decorate target member (D.as_word decoration) operands.now)) sink.old sink.new result }
 {
+    let decoration = decoration.word();
     put_list(
         sink,
         Op::MemberDecorate,
@@ -212,7 +196,7 @@ pub fn type_function(sink: &mut [u32], id: u32, types: &[u64]) -> usize
     put_list(sink, Op::TypeFunction, &[id], types)
 }
 
-// ---- constants
+// ---- constants, each with its type and its id, as in the Rust
 
 pub fn constant_true(sink: &mut [u32], ty: u32, id: u32) -> usize
     ensures { Put (words (constant_true ty id)) sink.old sink.new result }

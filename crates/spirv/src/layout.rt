@@ -76,7 +76,8 @@ pub fn put_both<W: Words>(sink: &mut [u32], head: &[u32], rest: W) -> usize
     n
 }
 
-// What an instruction of so many words begins with: its first word, and its first operands.
+// What an instruction of so many words begins with: its first word, and its first operands. `count` is of the whole instruction, and
+// no length of a slice; an opcode has 16 bits.
 pub fn put_head<O: Word>(sink: &mut [u32], count: usize, op: O, operands: &[u32]) -> usize
     requires { (count < 65536) × (O.as_word op < 65536) }
     ensures { Put (head count (O.as_word op) operands.now) sink.old sink.new result }

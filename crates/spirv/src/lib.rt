@@ -2,6 +2,7 @@
 // the module's layout. Words go to the front of what is left of a buffer that the caller lends.
 #![tactic(auto)]
 
+pub mod decorations;
 pub mod helpers;
 pub mod images;
 pub mod instructions;

@@ -2,14 +2,15 @@
 // is then put to the facet. Other fields are read by the tag where they are asked for, since a facet that had them all would be
 // the whole type: `sheet_fields` tests them, `entries` takes them for the type's own declaration, `zeroable` walks what is under a
 // type, and `writer_constants` asks for a scalar's kind and for the places of a Compose.
-ghost use Rattle.std.specs.Prelude.{◌≡◌, ◌≤◌, length};
+ghost use Rattle.std.specs.Prelude.{◌≡◌};
 ghost use Rattle.definition.specs.Bytes.{name_end};
 ghost use Rattle.definition.specs.Sheet.{type_fields};
 ghost use Rattle.definition.specs.Rules.{inner_at};
-ghost use Rattle.records.specs.Places.{types_from};
+ghost use Rattle.records.specs.Places.{types_in};
 ghost use Rattle.type_facts.specs.Facets.{facet_of, image_facet, dynamic_in, stride_of, stride_in, element_in, access_in, base_in, pointer_in};
 
 use fields::Named;
+use records::Earlier;
 use sheet_fields::values::{float_width, size_fits};
 use spirv::layouter::matrix_stride;
 
@@ -44,34 +45,41 @@ pub fn facet_of(tag: u8, body: &[u8]) -> Facet
 {
     let named = Named::new(body);
     match tag {
+        16 => Facet::Other,
+        17 => Facet::Other,
         18 => Facet::Matrix {
             rows: named.u8_at(1),
             width: named.u8_at(2),
         },
-        20 | 21 => Facet::Pointer,
+        19 => Facet::Other,
+        20 => Facet::Pointer,
+        21 => Facet::Pointer,
         22 => Facet::Array {
             base: named.u16_at(0),
             dynamic: named.u32_at(2) == 0,
         },
         23 => Facet::Struct,
         24 => image_facet(named.u8_at(2), named.u8_at(4)),
-        16 | 17 | 19 | 25 | 26 | 27 => Facet::Other,
-        28 | _ => Facet::BindingArray {
+        25 => Facet::Other,
+        26 => Facet::Other,
+        27 => Facet::Other,
+        28 => Facet::BindingArray {
+            base: named.u16_at(0),
+        },
+        _ => Facet::BindingArray {
             base: named.u16_at(0),
         },
     }
 }
 
-// Of type i of the first n.
-pub fn facet_at(sheet: &[u8], types: &[u32], ntypes: usize, index: usize) -> Facet
-    requires { ntypes ≤ length types.now }
-    ensures { result ≡ facet_of (inner_at (types_from sheet.now types.now ntypes) index) }
+// Of type i.
+pub fn facet_at(types: Earlier<'_>, index: usize) -> Facet
+    ensures { result ≡ facet_of (inner_at (types_in types.entry) index) }
 {
-    if ntypes <= index {
-        return Facet::Other;
+    match types.rest_at(index) {
+        None => Facet::Other,
+        Some(rest) => facet_of(records::tag_of(rest), records::body_of(rest)),
     }
-    let rest = entries::entry_at(sheet, types, index);
-    facet_of(records::tag_of(rest), records::body_of(rest))
 }
 
 // The column stride of so many rows of a width. A matrix that test 10 would refuse has none, here as in the definition.

@@ -8,4 +8,6 @@ pub mod Parts
 pub mod Values
 pub mod Staged
 pub mod Blocks
+pub mod Empty
 pub mod Passing
+pub mod Turns

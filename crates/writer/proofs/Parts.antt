@@ -21,7 +21,7 @@ use Rattle.writer.specs.Rows.{TableRow, table_row, triple, table_rows, part, sam
 use Rattle.writer.specs.Regions.{composites_at, parts_at}
 use Rattle.writer.specs.Cost.{staging}
 use Rattle.writer.specs.Held.{Tables, All, SmallComposite, composite_key, parts_of_c, composite_row, all_parts, RoomIn}
-use Rattle.writer.specs.Steps.{FindsComposite}
+use Rattle.writer.specs.Steps.{staged, FindsComposite}
 
 -- ---- lists of numbers
 
@@ -202,12 +202,14 @@ seek_composite v sv q T p o (suc n) (c ∷ cs) a e ho hq f =
     go (no x) r true false u w = rw (u, w) r
     go (no x) r false t u w = rw u r
 
-pub finds_composite : (w : Writer) (T : List ℕ) (r : Option ℕ) (key n : ℕ) → RoomIn (staging n) w T
-    → r ≡ seek_parts key (part T (parts_at w + w.parts) n) (parts_at w + w.parts) T (composites_at w) (parts_at w) w.composites → FindsComposite key n w T r
-finds_composite w T r key n room q c sm e f S s h =
-    let end = parts_at w + w.parts in
-    let d : end - parts_at w ≡ w.parts = omega arith in
-    q ∙ (λ j. seek_parts (e j) (f j) end T (composites_at w) (parts_at w) w.composites)
-    ∙ seek_composite c sm end T (composites_at w) (parts_at w) w.composites s.constants.composites h.small.composed
+pub finds_composite : (w : Writer) (r : Option ℕ) (key n : ℕ) → RoomIn (staging n) w
+    → r ≡ seek_parts key (staged n w) (parts_at w.used + w.used.parts) w.tables.now (composites_at w.used) (parts_at w.used) w.used.composites → FindsComposite key n w r
+finds_composite w r key n room q c sm e f s h =
+    let T = w.tables.now in
+    let u = w.used in
+    let end = parts_at u + u.parts in
+    let d : end - parts_at u ≡ u.parts = omega arith in
+    q ∙ (λ j. seek_parts (e j) (f j) end T (composites_at u) (parts_at u) u.composites)
+    ∙ seek_composite c sm end T (composites_at u) (parts_at u) u.composites s.constants.composites h.small.composed
     (ap (λ (t : Tables). t.composites) h.tables) (omega arith) (omega arith)
-    (ap (λ (m : ℕ). part T (parts_at w) m) d ∙ ap (λ (t : Tables). t.parts) h.tables)
+    (ap (λ (m : ℕ). part T (parts_at u) m) d ∙ ap (λ (t : Tables). t.parts) h.tables)

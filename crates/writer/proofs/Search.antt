@@ -132,14 +132,14 @@ seek_null n t = is_lookup ℕ_discrete (λ x. x) (λ x. 0) (λ x. Unit) (λ x y 
 
 -- ---- the writer's tables
 
-module _ (w : Writer) (T : List ℕ) (r : Option ℕ) where
-  pub finds_type : (key : ℕ) → r ≡ seek_in key 0 (table_rows pair T 0 w.types) → FindsType key w T r
-  finds_type key q k sm e S s h =
-      q ∙ ap (λ (n : ℕ). seek_in n 0 (table_rows pair T 0 w.types)) e ∙ ap (λ (t : Tables). seek_in (packed_key k) 0 t.types) h.tables ∙ seek_key k sm s.types h.small.keys
+module _ (w : Writer) (r : Option ℕ) where
+  pub finds_type : (key : ℕ) → r ≡ seek_in key 0 (table_rows pair w.tables.now 0 w.used.types) → FindsType key w r
+  finds_type key q k sm e s h =
+      q ∙ ap (λ (n : ℕ). seek_in n 0 (table_rows pair w.tables.now 0 w.used.types)) e ∙ ap (λ (t : Tables). seek_in (packed_key k) 0 t.types) h.tables ∙ seek_key k sm s.types h.small.keys
 
-  pub finds_literal : (form bits : ℕ) → r ≡ seek_in form bits (table_rows triple T (literals_at w) w.literals) → FindsLiteral form bits w T r
-  finds_literal form bits q l e f S s h =
-      q ∙ (λ j. seek_in (e j) (f j) (table_rows triple T (literals_at w) w.literals)) ∙ ap (λ (t : Tables). seek_in (literal_form l) (bits_of l) t.literals) h.tables ∙ seek_literal l s.constants.literals
+  pub finds_literal : (form bits : ℕ) → r ≡ seek_in form bits (table_rows triple w.tables.now (literals_at w.used) w.used.literals) → FindsLiteral form bits w r
+  finds_literal form bits q l e f s h =
+      q ∙ (λ j. seek_in (e j) (f j) (table_rows triple w.tables.now (literals_at w.used) w.used.literals)) ∙ ap (λ (t : Tables). seek_in (literal_form l) (bits_of l) t.literals) h.tables ∙ seek_literal l s.constants.literals
 
-  pub finds_null : (ty : ℕ) → r ≡ seek_in ty 0 (table_rows pair T (nulls_at w) w.nulls) → FindsNull ty w T r
-  finds_null ty q S s h = q ∙ ap (λ (t : Tables). seek_in ty 0 t.nulls) h.tables ∙ seek_null ty s.constants.nulls
+  pub finds_null : (ty : ℕ) → r ≡ seek_in ty 0 (table_rows pair w.tables.now (nulls_at w.used) w.used.nulls) → FindsNull ty w r
+  finds_null ty q s h = q ∙ ap (λ (t : Tables). seek_in ty 0 t.nulls) h.tables ∙ seek_null ty s.constants.nulls

@@ -1,9 +1,11 @@
 -- What a constructor's words are of: its instruction, the ids taken as words. All its other numbers are words already.
-use Prim.Native.Nat.{ℕ, suc, ◌+◌, ◌*◌, ◌≤◌, ◌<◌}
-use mathlib.Core.Path.{◌≡◌, sym}
+use Prim.Native.Nat.{ℕ, suc, ◌+◌, ◌*◌, ◌-◌, ◌≤◌, ◌<◌}
+use mathlib.Core.Path.{◌≡◌, sym, subst}
 use mathlib.Core.List.{List, [], ◌∷◌, map}
 use native.Mathlib.Omega.{arith}
-use lib.ListN.{length, get_or}
+use lib.ListN.{length, get_or, take, drop, length-drop}
+use lib.Seq.{length-take-le}
+use denote.MutBor.{MutBor}
 use Rattle.definition.specs.Instructions.{Instruction, words, decorate, member_decorate, type_op, type_void, type_array, type_runtime_array, type_pointer, constant_true, constant_false, constant_null, constant_op, constant_composite, variable}
 use Rattle.std.specs.Prelude.{Option, None, Some, option_map}
 use Rattle.spirv.specs.Put.{Put}
@@ -11,23 +13,16 @@ use Rattle.spirv.specs.Ids.{low}
 use Rattle.std.proofs.lemmas.List.{length-map}
 use Rattle.spirv.proofs.Ids.{low_words}
 use Rattle.spirv.proofs.Puts as Puts
+use Rattle.writer.specs.declared.Used.{Used}
 use Rattle.writer.specs.declared.Writer.{Writer}
-use Rattle.writer.specs.Regions.{section_at, Section, names, annotations, declarations, used, more}
-use Rattle.writer.specs.Cost.{section_words}
-use Rattle.writer.specs.Held.{RoomFor}
-use Rattle.writer.specs.Steps.{Spells, Alone, Puts as PutsOne}
-use Rattle.writer.proofs.Words.{adds_put, adds_count, puts}
-
--- put into the part that was lent, they are put behind those of their section
-module _ (b : Section) {n : ℕ} {i : Instruction} {ws : List ℕ} (k : Spells n i ws) {w : Writer} {S z : List ℕ} {m : ℕ} (room : RoomFor (section_words b n) w S) (put : Put ws (Puts.part S (section_at b w + used b w)) z m) where
-  pub put_few : m ≤ n
-  put_few = omega (arith, k.few, adds_count w S ws n k.few b z m room put)
-
-  pub put_one : Alone b i → PutsOne b n i w S (more b w m) (Puts.back S (section_at b w + used b w) z)
-  put_one a = puts b n i ws k.spelt a w S (more b w m) (Puts.back S (section_at b w + used b w) z) (adds_put w S ws n k.few b z m room put)
+use Rattle.writer.specs.Regions.{parts_at, Section, names, annotations, declarations, more}
+use Rattle.writer.specs.Cost.{staging, declaring, section_words}
+use Rattle.writer.specs.Held.{WordsFit, RoomIn, RoomFor}
+use Rattle.writer.specs.Steps.{Spells, staged, Puts as PutsOne}
+use Rattle.writer.proofs.Words.{end_of, put_few, put_one}
 
 -- there is room for them
-pub room_for : (b : Section) {n : ℕ} {i : Instruction} {ws : List ℕ} {w : Writer} {S : List ℕ} → Spells n i ws → RoomFor (section_words b n) w S → RoomFor (section_words b (length ws)) w S
+pub room_for : (b : Section) {n : ℕ} {i : Instruction} {ws : List ℕ} {u : Used} {S : List ℕ} → Spells n i ws → WordsFit (section_words b n) u S → WordsFit (section_words b (length ws)) u S
 room_for names k room = let f = k.few in omega arith
 room_for annotations k room = let f = k.few in omega arith
 room_for declarations k room = let f = k.few in omega arith
@@ -152,3 +147,27 @@ variable_of ty id class (Some x) e g h =
     let q = sym g in
     let r : low class ≡ class = omega arith in
     record { few = omega arith; spelt = λ j. 327739 ∷ p j ∷ q j ∷ r j ∷ low x ∷ [] }
+
+-- ---- an instruction of the n ids that stand behind the parts in use, lent from tables that were taken out and are put back
+
+module _ (f : List ℕ → Instruction) (g : List ℕ → List ℕ) (k n : ℕ) (spells : (xs : List ℕ) → length xs < 65000 → Spells (length xs + k) (f xs) (g xs)) (w : Writer)
+    (room : (n < 65000) × RoomIn (staging n) w × RoomFor (declaring (n + k)) w) {t : MutBor (List ℕ)} (same : t ≡ w.tables) {z : List ℕ} {m : ℕ}
+    (put : Put (g (take (parts_at w.used + w.used.parts + n - (parts_at w.used + w.used.parts)) (drop (parts_at w.used + w.used.parts) t.now))) (Puts.part w.sections.now (end_of declarations w.used)) z m) where
+  spells_staged : Spells (n + k) (f (staged n w)) (g (take (parts_at w.used + w.used.parts + n - (parts_at w.used + w.used.parts)) (drop (parts_at w.used + w.used.parts) t.now)))
+  spells_staged =
+      let at = parts_at w.used + w.used.parts in
+      let xs = staged n w in
+      let rows = room.1 in
+      let l : length xs ≡ n = length-take-le n (drop at w.tables.now) (simp length-drop (omega arith)) in
+      let e : at + n - at ≡ n = omega arith in
+      let s : Spells (length xs + k) (f xs) (g xs) = spells xs (omega (arith, l, room.0)) in
+      subst (λ (ys : List ℕ). Spells (n + k) (f xs) (g ys)) (sym (λ j. take (e j) (drop at (same j).now)))
+      (subst (λ (i : ℕ). Spells (i + k) (f xs) (g xs)) l s)
+
+  pub staged_few : m ≤ n + k
+  staged_few = put_few declarations spells_staged w room.2 put
+
+  pub put_staged : PutsOne declarations (n + k) (f (staged n w)) w (record w { tables = t; sections = record w.sections { now = Puts.back w.sections.now (end_of declarations w.used) z }; used = more declarations w.used m })
+  put_staged =
+      subst (λ (y : MutBor (List ℕ)). PutsOne declarations (n + k) (f (staged n w)) w (record w { tables = y; sections = record w.sections { now = Puts.back w.sections.now (end_of declarations w.used) z }; used = more declarations w.used m }))
+      (sym same) (put_one declarations spells_staged w room.2 put tt)

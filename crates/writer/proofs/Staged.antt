@@ -1,65 +1,65 @@
--- Parts put behind those in use. What is put there is `splice T (waiting w) ws` of the list before it: so nothing in use is
--- changed, and the parts are ws. Last, an instruction that takes the parts as they are lent.
+-- Parts put behind those in use, one by one: what is put there leaves all that is in use alone and stands behind what was put before
+-- it, and there it stays.
 use Prim.Native.Nat.{ℕ, ◌+◌, ◌*◌, ◌≤◌}
-use mathlib.Core.Path.{◌≡◌, refl, ap, ◌∙◌, subst}
-use mathlib.Core.List.{List, ◌++◌, append_assoc}
+use mathlib.Core.Path.{◌≡◌, refl, sym, ap, ◌∙◌, subst}
+use mathlib.Core.List.{List, [], ◌∷◌, ◌++◌}
 use native.Mathlib.Omega.{arith}
-use lib.ListN.{length, take, drop}
-use lib.Seq.{take_at, drop_at, length-take-le}
-use Rattle.definition.specs.Instructions.{Instruction}
+use lib.ListN.{length}
 use Rattle.definition.specs.State.{State}
 use Rattle.spirv.specs.Sections.{splice}
+use Rattle.spirv.proofs.Splices.{splice-length}
+use Rattle.writer.specs.declared.Used.{Used}
 use Rattle.writer.specs.declared.Writer.{Writer}
 use Rattle.writer.specs.Rows.{pair, triple, part}
-use Rattle.writer.specs.Regions.{literals_at, nulls_at, values_at, composites_at, blocked_at, parts_at, declarations}
-use Rattle.writer.specs.Cost.{no_cost, staging}
-use Rattle.writer.specs.Held.{tables_of, Held, RoomIn}
+use Rattle.writer.specs.Regions.{literals_at, nulls_at, values_at, composites_at, blocked_at, parts_at}
+use Rattle.writer.specs.Cost.{Cost, no_cost, staging}
+use Rattle.writer.specs.Held.{tables_of, Held, RowsFit, RoomIn, Grown}
 use Rattle.writer.specs.Staged.{Staged}
-use Rattle.writer.specs.Steps.{Puts}
-use Rattle.writer.proofs.Regions.{left, rows_agree, part_left}
+use Rattle.writer.specs.Steps.{Kept, staged, with_part}
+use Rattle.writer.proofs.Regions.{left, rows_agree, part_agree, part_left, part_more}
 
 -- where the parts wait
 abbrev pub waiting : Writer → ℕ
-waiting w = parts_at w + w.parts
+waiting w = parts_at w.used + w.used.parts
 
 -- what is put there, or further behind, changes nothing that is in use
-module _ (w : Writer) (T ws : List ℕ) (p : ℕ) (late : waiting w ≤ p) (inside : p + length ws ≤ length T) (room : RoomIn no_cost w T) where
-  tables_kept : tables_of w (splice T p ws) ≡ tables_of w T
+module _ (u : Used) (T ws : List ℕ) (p : ℕ) (late : parts_at u + u.parts ≤ p) (inside : p + length ws ≤ length T) (room : RowsFit no_cost u T) where
+  tables_kept : tables_of u (splice T p ws) ≡ tables_of u T
   tables_kept = λ i. record {
-    types = rows_agree pair T (splice T p ws) 0 w.types (left T p ws inside 0 (2 * w.types) (omega arith)) i;
-    literals = rows_agree triple T (splice T p ws) (literals_at w) w.literals (left T p ws inside (literals_at w) (3 * w.literals) (omega arith)) i;
-    nulls = rows_agree pair T (splice T p ws) (nulls_at w) w.nulls (left T p ws inside (nulls_at w) (2 * w.nulls) (omega arith)) i;
-    values = rows_agree triple T (splice T p ws) (values_at w) w.values (left T p ws inside (values_at w) (3 * w.values) (omega arith)) i;
-    composites = rows_agree triple T (splice T p ws) (composites_at w) w.composites (left T p ws inside (composites_at w) (3 * w.composites) (omega arith)) i;
-    blocked = part_left T p ws inside (blocked_at w) w.blocked (omega arith) i;
-    parts = part_left T p ws inside (parts_at w) w.parts (omega arith) i;
+    types = rows_agree pair T (splice T p ws) 0 u.types (left T p ws inside 0 (2 * u.types) (omega arith)) i;
+    literals = rows_agree triple T (splice T p ws) (literals_at u) u.literals (left T p ws inside (literals_at u) (3 * u.literals) (omega arith)) i;
+    nulls = rows_agree pair T (splice T p ws) (nulls_at u) u.nulls (left T p ws inside (nulls_at u) (2 * u.nulls) (omega arith)) i;
+    values = rows_agree triple T (splice T p ws) (values_at u) u.values (left T p ws inside (values_at u) (3 * u.values) (omega arith)) i;
+    composites = rows_agree triple T (splice T p ws) (composites_at u) u.composites (left T p ws inside (composites_at u) (3 * u.composites) (omega arith)) i;
+    blocked = part_left T p ws inside (blocked_at u) u.blocked (omega arith) i;
+    parts = part_left T p ws inside (parts_at u) u.parts (omega arith) i;
   }
 
-  pub held_behind : (S : List ℕ) (s : State) → Held w T S s → Held w (splice T p ws) S s
-  held_behind S s h = record { last = h.last; tables = tables_kept ∙ h.tables; small = h.small; sections = h.sections }
+held_behind : (w : Writer) (ws : List ℕ) (p : ℕ) → waiting w ≤ p → p + length ws ≤ length w.tables.now → RoomIn no_cost w → (s : State) → Held w s → Held (record w { tables = record w.tables { now = splice w.tables.now p ws } }) s
+held_behind w ws p late inside room s h = record { last = h.last; tables = tables_kept w.used w.tables.now ws p late inside room ∙ h.tables; small = h.small; sections = h.sections }
 
-module _ (w : Writer) (T ws : List ℕ) (n : ℕ) (l : length ws ≡ n) (room : RoomIn (staging n) w T) where
-  pub staged : (ps : State → List ℕ) → ((S : List ℕ) (s : State) → Held w T S s → ws ≡ ps s) → (T' : List ℕ) → T' ≡ splice T (waiting w) ws → Staged n ps w T T'
-  staged ps e T' et = rw et (record {
-    held = held_behind w T ws (waiting w) (omega arith) (omega arith) (omega arith);
-    parts = λ S s h. there ∙ e S s h;
-  })
-    where
-      there : part (splice T (waiting w) ws) (waiting w) n ≡ ws
-      there =
-          let k : length (take (waiting w) T) ≡ waiting w = length-take-le (waiting w) T (omega arith) in
-          ap (λ (z : List ℕ). take n (drop (waiting w) z)) (append_assoc (take (waiting w) T) ws (drop (waiting w + length ws) T))
-          ∙ ap (take n) (drop_at (take (waiting w) T) (ws ++ drop (waiting w + length ws) T) (waiting w) k) ∙ take_at ws (drop (waiting w + length ws) T) n l
+-- what is staged is not in use
+pub staged_grown : {n : ℕ} {ps : State → List ℕ} {w v : Writer} → Staged n ps w v → Grown no_cost w v
+staged_grown {w = w} {v = v} q = subst (λ (u : Used). Grown no_cost w (record v { used = u })) (sym q.used) (omega (arith, q.lent))
 
--- the same where the parts are known only of a state that is held
-pub staged_by : (n : ℕ) (ps : State → List ℕ) (w : Writer) (T T' : List ℕ) → ((s : State) → length (ps s) ≡ n) → RoomIn (staging n) w T
-    → ((S : List ℕ) (s : State) → Held w T S s → T' ≡ splice T (waiting w) (ps s)) → Staged n ps w T T'
-staged_by n ps w T T' l room e = record { held = λ S s h. (one S s h).held S s h; parts = λ S s h. (one S s h).parts S s h }
-  where
-    one : (S : List ℕ) (s : State) → Held w T S s → Staged n (λ z. ps s) w T T'
-    one S s h = staged w T (ps s) n (l s) room (λ z. ps s) (λ S' z k. refl) T' (e S s h)
+pub staged_none : (w : Writer) → Staged 0 (λ s. []) w w
+staged_none w = record { lent = record { tables = refl; sections = refl; tables_long = refl; sections_long = refl }; used = refl; sections = refl; held = λ s h. h; parts = λ s h. refl }
 
--- an instruction of the parts that are lent, as those that stand there
-pub puts_staged : (i : List ℕ → Instruction) (k n : ℕ) {xs ys : List ℕ} {w v : Writer} {S S' : List ℕ} → (xs ≡ ys) × (length xs ≡ n) → Puts declarations (length xs + k) (i xs) w S v S' → Puts declarations (n + k) (i ys) w S v S'
-puts_staged i k n {xs = xs} {w = w} {v = v} {S = S} {S' = S'} e h =
-    subst (λ (zs : List ℕ). Puts declarations (n + k) (i zs) w S v S') e.0 (subst (λ (m : ℕ). Puts declarations (m + k) (i xs) w S v S') e.1 h)
+-- one part more
+pub staged_more : {n : ℕ} {ps : State → List ℕ} {w v : Writer} → Staged n ps w v → RoomIn (staging (n + 1)) w → (x : ℕ) (f : State → ℕ) → ((s : State) → Held v s → x ≡ f s)
+    → Staged (n + 1) (λ s. ps s ++ f s ∷ []) w (with_part n x v)
+staged_more {n = n} {w = w} {v = v} q room x f e =
+    let fits : RowsFit (staging (n + 1)) v.used v.tables.now = rw q.used (omega (arith, room, q.lent)) in
+    record {
+      lent = record { tables = q.lent.tables; sections = q.lent.sections; tables_long = splice-length v.tables.now (waiting v + n) (x ∷ []) (omega (arith, fits)) ∙ q.lent.tables_long; sections_long = q.lent.sections_long };
+      used = q.used;
+      sections = q.sections;
+      held = λ s h. held_behind v (x ∷ []) (waiting v + n) (omega arith) (omega (arith, fits)) (omega (arith, fits)) s (q.held s h);
+      parts = λ s h. part_more v.tables.now (waiting v) n (waiting v + n) (x ∷ []) refl (omega (arith, fits)) ∙ (λ j. q.parts s h j ++ e s (q.held s h) j ∷ []);
+    }
+
+-- what waits behind the parts in use still does
+pub staged_still : (n : ℕ) {c : Cost} {f : State → State} {w v : Writer} → Kept c f w v → staged n v ≡ staged n w
+staged_still n {w = w} {v = v} k =
+    let e : waiting v ≡ waiting w = omega (arith, k.grown, k.tail) in
+    ap (λ (j : ℕ). part v.tables.now j n) e ∙ part_agree w.tables.now v.tables.now (waiting w) n k.grown.lent.tables_long (λ j l h. k.tail.ids j (omega arith))

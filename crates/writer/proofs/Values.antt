@@ -46,17 +46,17 @@ past T b (suc n) [] e c h = refl
 past T b (suc n) (v ∷ vs) e zero h = absurd (not-suc-le-zero h)
 past T b (suc n) (v ∷ vs) e (suc c) h = past T (b + 3) n vs (ap (drop 1) e) c (omega arith)
 
-module _ (w : Writer) (T : List ℕ) (c : ℕ) where
-  pub value_there : c < w.values → ValueAt c w T (value_in T (values_at w + 3 * c))
+module _ (w : Writer) (c : ℕ) where
+  pub value_there : c < w.used.values → ValueAt c w (value_in w.tables.now (values_at w.used + 3 * c))
   value_there h = record {
-    named = rw (lt-ltb c w.values h);
-    held = λ S s y. there T (values_at w) w.values s.constants.values (ap (λ (t : Tables). t.values) y.tables) y.small.kinds c (values_at w + 3 * c) h refl;
+    named = rw (lt-ltb c w.used.values h);
+    held = λ s y. there w.tables.now (values_at w.used) w.used.values s.constants.values (ap (λ (t : Tables). t.values) y.tables) y.small.kinds c (values_at w.used + 3 * c) h refl;
   }
 
-  pub value_past : w.values ≤ c → ValueAt c w T nothing
+  pub value_past : w.used.values ≤ c → ValueAt c w nothing
   value_past h = record {
-    named = rw (le-ltb c w.values h);
-    held = λ S s y.
-        let e = past T (values_at w) w.values s.constants.values (ap (λ (t : Tables). t.values) y.tables) c h in
+    named = rw (le-ltb c w.used.values h);
+    held = λ s y.
+        let e = past w.tables.now (values_at w.used) w.used.values s.constants.values (ap (λ (t : Tables). t.values) y.tables) c h in
         rw (← e) (record { id = refl; type = refl; kind = refl; small = omega arith });
   }

@@ -1,29 +1,31 @@
 -- Words put behind those of a section, and capabilities listed. One law for every section: the state's words are those it had and
 -- the instruction's behind them, and tables and other sections stay; each kind of instruction is then an instance.
 use Prim.Native.Nat.{ℕ, zero, suc, ◌+◌, ◌≤◌, ◌<◌}
-use mathlib.Core.Path.{◌≡◌, refl, sym, ap, ◌∙◌, subst}
+use mathlib.Core.Path.{◌≡◌, refl, sym, ap, ◌∙◌}
 use mathlib.Core.Bool.{Bool, true, false, ◌||◌}
 use mathlib.Core.List.{List, [], ◌∷◌, ◌++◌, append_assoc, append-nil, map}
 use native.Mathlib.Omega.{arith}
 use lib.Dec.{eqb}
-use lib.ListN.{length, take, drop}
-use lib.Seq.{take-add, drop-drop}
+use lib.ListN.{length, take, drop, set, length-set}
+use lib.Seq.{take-add, drop-drop, sets-eq}
 use borrow.Author.Tests.{eq-eqb, ne_eqb, eqb-true}
 use Rattle.std.specs.List.{list_any}
 use Rattle.definition.specs.Choice.{pick}
 use Rattle.definition.specs.Instructions.{Instruction, words, all_words}
-use Rattle.definition.specs.State.{State, occurrences, same, list_one, listed}
+use Rattle.definition.specs.State.{State, occurrences, same, list_one, listed, annotate}
 use Rattle.definition.specs.Rules.{blocked_by, blocked}
 use Rattle.spirv.specs.Put.{Put}
 use Rattle.spirv.specs.Sections.{splice}
 use Rattle.spirv.proofs.Puts as Puts
-use Rattle.writer.specs.declared.Writer.{Writer}
+use Rattle.spirv.proofs.Splices.{splice-length}
 use Rattle.spirv.specs.Ids.{low}
+use Rattle.writer.specs.declared.Used.{Used}
+use Rattle.writer.specs.declared.Writer.{Writer}
 use Rattle.writer.specs.Rows.{part, is_listed}
 use Rattle.writer.specs.Regions.{section_at, Section, names, annotations, declarations, used, more, add_to}
-use Rattle.writer.specs.Cost.{listing_cost, declaring, section_words}
-use Rattle.writer.specs.Held.{Sections, tables_of, tables_in, sections_of, sections_in, words_of, Held, RoomFor}
-use Rattle.writer.specs.Steps.{Spelt, Alone, Adds, Puts as PutsOne, Listed, with_capabilities, CountListed, Pending, Committed}
+use Rattle.writer.specs.Cost.{declaring, section_words}
+use Rattle.writer.specs.Held.{Sections, tables_in, sections_of, sections_in, words_of, HeldIn, Held, WordsFit, RoomFor, SameLent}
+use Rattle.writer.specs.Steps.{Kept, Spelt, Alone, Spells, Puts as PutsOne, Listed, Pending, Committed}
 use Rattle.writer.proofs.Regions.{part_left, part_right, part_more}
 
 map-append : (xs ys : List ℕ) → map low (xs ++ ys) ≡ map low xs ++ map low ys
@@ -52,84 +54,94 @@ blocked_alone is i e = sym (append-nil (blocked is)) ∙ ap (λ (l : List ℕ). 
 
 -- words behind those of a section
 abbrev pub append : Section → List ℕ → Sections → Sections
-append names ws t = record { capabilities = t.capabilities; names = t.names ++ ws; annotations = t.annotations; declarations = t.declarations }
-append annotations ws t = record { capabilities = t.capabilities; names = t.names; annotations = t.annotations ++ ws; declarations = t.declarations }
-append declarations ws t = record { capabilities = t.capabilities; names = t.names; annotations = t.annotations; declarations = t.declarations ++ ws }
+append names ws t = record t { names = t.names ++ ws }
+append annotations ws t = record t { annotations = t.annotations ++ ws }
+append declarations ws t = record t { declarations = t.declarations ++ ws }
 
 -- what the words of one more instruction make of a state's sections
 pub append_in : (b : Section) (i : Instruction) (ws : List ℕ) → Spelt i ws → (s : State) → append b ws (sections_in s) ≡ sections_in (add_to b i s)
 unfolding listed
-append_in names i ws e s = λ j. record { capabilities = s.capabilities; names = (ap (λ (l : List ℕ). words_of s.names ++ l) (sym e) ∙ words_snoc s.names i) j; annotations = words_of s.annotations; declarations = words_of s.declarations }
-append_in annotations i ws e s = λ j. record { capabilities = s.capabilities; names = words_of s.names; annotations = (ap (λ (l : List ℕ). words_of s.annotations ++ l) (sym e) ∙ words_snoc s.annotations i) j; declarations = words_of s.declarations }
-append_in declarations i ws e s = λ j. record { capabilities = s.capabilities; names = words_of s.names; annotations = words_of s.annotations; declarations = (ap (λ (l : List ℕ). words_of s.declarations ++ l) (sym e) ∙ words_snoc s.declarations i) j }
+append_in names i ws e s = λ j. record (sections_in s) { names = (ap (λ (l : List ℕ). words_of s.names ++ l) (sym e) ∙ words_snoc s.names i) j }
+append_in annotations i ws e s = λ j. record (sections_in s) { annotations = (ap (λ (l : List ℕ). words_of s.annotations ++ l) (sym e) ∙ words_snoc s.annotations i) j }
+append_in declarations i ws e s = λ j. record (sections_in s) { declarations = (ap (λ (l : List ℕ). words_of s.declarations ++ l) (sym e) ∙ words_snoc s.declarations i) j }
 
--- what it makes of a state's tables: nothing
-tables_in_lem : (b : Section) (i : Instruction) → Alone b i → (s : State) → tables_in s ≡ tables_in (add_to b i s)
+-- an instruction in one section: the tables stay
+added : (b : Section) (m : ℕ) (u : Used) (T S S' ws : List ℕ) (i : Instruction) → sections_of (more b u m) S' ≡ append b ws (sections_of u S)
+    → Spelt i ws → Alone b i → (s : State) → HeldIn u T S s → HeldIn (more b u m) T S' (add_to b i s)
 unfolding listed
-tables_in_lem names i a s = refl
-tables_in_lem annotations i a s = λ j. record { types = (tables_in s).types; literals = (tables_in s).literals; nulls = (tables_in s).nulls; values = (tables_in s).values; composites = (tables_in s).composites; blocked = blocked_alone s.annotations i a j; parts = (tables_in s).parts }
-tables_in_lem declarations i a s = refl
+added names m u T S S' ws i f e a s h = record { last = h.last; tables = h.tables; small = h.small; sections = f ∙ ap (append names ws) h.sections ∙ append_in names i ws e s }
+added annotations m u T S S' ws i f e a s h =
+    let t : tables_in s ≡ tables_in (annotate i s) = λ j. record (tables_in s) { blocked = blocked_alone s.annotations i a j } in
+    record { last = h.last; tables = h.tables ∙ t; small = h.small; sections = f ∙ ap (append annotations ws) h.sections ∙ append_in annotations i ws e s }
+added declarations m u T S S' ws i f e a s h = record { last = h.last; tables = h.tables; small = h.small; sections = f ∙ ap (append declarations ws) h.sections ∙ append_in declarations i ws e s }
 
--- an operation on one section: the tables stay
-add_held : (b : Section) (w v : Writer) (S S' ws : List ℕ) → v.idgen.last ≡ w.idgen.last → ((T : List ℕ) → tables_of v T ≡ tables_of w T)
-    → sections_of v S' ≡ append b ws (sections_of w S)
-    → (i : Instruction) → Spelt i ws → Alone b i → (T : List ℕ) (s : State) → Held w T S s → Held v T S' (add_to b i s)
-unfolding listed
-add_held names w v S S' ws l t f i e a T s h = record { last = l ∙ h.last; tables = t T ∙ h.tables ∙ tables_in_lem names i a s; small = h.small; sections = f ∙ ap (append names ws) h.sections ∙ append_in names i ws e s }
-add_held annotations w v S S' ws l t f i e a T s h = record { last = l ∙ h.last; tables = t T ∙ h.tables ∙ tables_in_lem annotations i a s; small = h.small; sections = f ∙ ap (append annotations ws) h.sections ∙ append_in annotations i ws e s }
-add_held declarations w v S S' ws l t f i e a T s h = record { last = l ∙ h.last; tables = t T ∙ h.tables ∙ tables_in_lem declarations i a s; small = h.small; sections = f ∙ ap (append declarations ws) h.sections ∙ append_in declarations i ws e s }
+-- where the words in use end
+abbrev pub end_of : Section → Used → ℕ
+end_of b u = section_at b u + used b u
 
-module _ (w : Writer) (S ws : List ℕ) (n : ℕ) (few : length ws ≤ n) where
-  abbrev from : Section → ℕ
-  from b = section_at b w + used b w
-
-  pub in_list : (b : Section) → RoomFor (section_words b n) w S → from b + length ws ≤ length S
+module _ (u : Used) (S ws : List ℕ) (n : ℕ) (few : length ws ≤ n) where
+  in_list : (b : Section) → WordsFit (section_words b n) u S → end_of b u + length ws ≤ length S
   in_list names room = omega arith
   in_list annotations room = omega arith
   in_list declarations room = omega arith
 
-  appended : (b : Section) → RoomFor (section_words b n) w S → sections_of (more b w (length ws)) (splice S (from b) ws) ≡ append b ws (sections_of w S)
+  appended : (b : Section) → WordsFit (section_words b n) u S → sections_of (more b u (length ws)) (splice S (end_of b u) ws) ≡ append b ws (sections_of u S)
   appended names room = λ i. record {
-    capabilities = part_left S (from names) ws (in_list names room) 0 w.capabilities (omega arith) i;
-    names = part_more S (section_at names w) w.names (from names) ws refl (in_list names room) i;
-    annotations = part_right S (from names) ws (in_list names room) (section_at annotations w) w.annotations (omega arith) i;
-    declarations = part_right S (from names) ws (in_list names room) (section_at declarations w) w.declarations (omega arith) i;
+    capabilities = part_left S (end_of names u) ws (in_list names room) 0 u.capabilities (omega arith) i;
+    names = part_more S (section_at names u) u.names (end_of names u) ws refl (in_list names room) i;
+    annotations = part_right S (end_of names u) ws (in_list names room) (section_at annotations u) u.annotations (omega arith) i;
+    declarations = part_right S (end_of names u) ws (in_list names room) (section_at declarations u) u.declarations (omega arith) i;
   }
   appended annotations room = λ i. record {
-    capabilities = part_left S (from annotations) ws (in_list annotations room) 0 w.capabilities (omega arith) i;
-    names = part_left S (from annotations) ws (in_list annotations room) (section_at names w) w.names (omega arith) i;
-    annotations = part_more S (section_at annotations w) w.annotations (from annotations) ws refl (in_list annotations room) i;
-    declarations = part_right S (from annotations) ws (in_list annotations room) (section_at declarations w) w.declarations (omega arith) i;
+    capabilities = part_left S (end_of annotations u) ws (in_list annotations room) 0 u.capabilities (omega arith) i;
+    names = part_left S (end_of annotations u) ws (in_list annotations room) (section_at names u) u.names (omega arith) i;
+    annotations = part_more S (section_at annotations u) u.annotations (end_of annotations u) ws refl (in_list annotations room) i;
+    declarations = part_right S (end_of annotations u) ws (in_list annotations room) (section_at declarations u) u.declarations (omega arith) i;
   }
   appended declarations room = λ i. record {
-    capabilities = part_left S (from declarations) ws (in_list declarations room) 0 w.capabilities (omega arith) i;
-    names = part_left S (from declarations) ws (in_list declarations room) (section_at names w) w.names (omega arith) i;
-    annotations = part_left S (from declarations) ws (in_list declarations room) (section_at annotations w) w.annotations (omega arith) i;
-    declarations = part_more S (section_at declarations w) w.declarations (from declarations) ws refl (in_list declarations room) i;
+    capabilities = part_left S (end_of declarations u) ws (in_list declarations room) 0 u.capabilities (omega arith) i;
+    names = part_left S (end_of declarations u) ws (in_list declarations room) (section_at names u) u.names (omega arith) i;
+    annotations = part_left S (end_of declarations u) ws (in_list declarations room) (section_at annotations u) u.annotations (omega arith) i;
+    declarations = part_more S (section_at declarations u) u.declarations (end_of declarations u) ws refl (in_list declarations room) i;
   }
 
-  pub adds : (b : Section) → RoomFor (section_words b n) w S → Adds b n ws w S (more b w (length ws)) (splice S (from b) ws)
-  adds names room = record { grown = omega arith; held = add_held names w (more names w (length ws)) S (splice S (from names) ws) ws refl (λ T. refl) (appended names room) }
-  adds annotations room = record { grown = omega arith; held = add_held annotations w (more annotations w (length ws)) S (splice S (from annotations) ws) ws refl (λ T. refl) (appended annotations room) }
-  adds declarations room = record { grown = omega arith; held = add_held declarations w (more declarations w (length ws)) S (splice S (from declarations) ws) ws refl (λ T. refl) (appended declarations room) }
-
   -- what a writer put into the part that it was lent
-  module _ (b : Section) (z : List ℕ) (m : ℕ) (room : RoomFor (section_words b n) w S) (put : Put ws (Puts.part S (section_at b w + used b w)) z m) where
+  module _ (b : Section) (z : List ℕ) (m : ℕ) (room : WordsFit (section_words b n) u S) (put : Put ws (Puts.part S (end_of b u)) z m) where
+    lent : Puts.back S (end_of b u) z ≡ splice S (end_of b u) ws
+    lent = Puts.lent S (end_of b u) ws z m put (in_list b room)
+
     pub adds_count : m ≡ length ws
-    adds_count = Puts.lent_count S (from b) ws z m put (in_list b room)
+    adds_count = Puts.lent_count S (end_of b u) ws z m put (in_list b room)
 
-    pub put_appended : sections_of (more b w m) (Puts.back S (section_at b w + used b w) z) ≡ append b ws (sections_of w S)
-    put_appended = (λ j. sections_of (more b w (adds_count j)) (Puts.lent S (from b) ws z m put (in_list b room) j)) ∙ appended b room
+    pub put_long : length (Puts.back S (end_of b u) z) ≡ length S
+    put_long = ap length lent ∙ splice-length S (end_of b u) ws (in_list b room)
 
-    pub adds_put : Adds b n ws w S (more b w m) (Puts.back S (section_at b w + used b w) z)
-    adds_put =
-        let l : Puts.back S (from b) z ≡ splice S (from b) ws = Puts.lent S (from b) ws z m put (in_list b room) in
-        subst (λ (k : ℕ). Adds b n ws w S (more b w k) (Puts.back S (from b) z)) (sym adds_count)
-        (subst (λ (y : List ℕ). Adds b n ws w S (more b w (length ws)) y) (sym l) (adds b room))
+    pub put_appended : sections_of (more b u m) (Puts.back S (end_of b u) z) ≡ append b ws (sections_of u S)
+    put_appended = (λ j. sections_of (more b u (adds_count j)) (lent j)) ∙ appended b room
 
--- the same of one instruction
-pub puts : (b : Section) (n : ℕ) (i : Instruction) (ws : List ℕ) → Spelt i ws → Alone b i → (w : Writer) (S : List ℕ) (v : Writer) (S' : List ℕ) → Adds b n ws w S v S' → PutsOne b n i w S v S'
-puts b n i ws e q w S v S' a = record { grown = a.grown; held = a.held i e q }
+-- the writer, where m words more are in use in a section, and the sections are these
+abbrev with_words : Section → ℕ → List ℕ → Writer → Writer
+with_words b m S w = record w { used = more b w.used m; sections = record w.sections { now = S } }
+
+kept_by : (b : Section) (n m : ℕ) (S : List ℕ) (w : Writer) (f : State → State) → m ≤ n → length S ≡ length w.sections.now
+    → ((s : State) → Held w s → Held (with_words b m S w) (f s)) → Kept (section_words b n) f w (with_words b m S w)
+kept_by names n m S w f few long h = record { grown = omega arith; tail = record { parts = refl; ids = λ j l. refl; tables = λ z. refl }; held = h }
+kept_by annotations n m S w f few long h = record { grown = omega arith; tail = record { parts = refl; ids = λ j l. refl; tables = λ z. refl }; held = h }
+kept_by declarations n m S w f few long h = record { grown = omega arith; tail = record { parts = refl; ids = λ j l. refl; tables = λ z. refl }; held = h }
+
+-- an instruction's words, put into the part that was lent
+module _ (b : Section) {n : ℕ} {i : Instruction} {ws : List ℕ} (k : Spells n i ws) (w : Writer) {z : List ℕ} {m : ℕ} (room : RoomFor (section_words b n) w)
+    (put : Put ws (Puts.part w.sections.now (end_of b w.used)) z m) where
+  pub put_few : m ≤ n
+  put_few = omega (arith, k.few, adds_count w.used w.sections.now ws n k.few b z m room put)
+
+  pub put_one : Alone b i → PutsOne b n i w (with_words b m (Puts.back w.sections.now (end_of b w.used) z) w)
+  put_one a =
+      let u = w.used in
+      let S = w.sections.now in
+      let back = Puts.back S (end_of b u) z in
+      kept_by b n m back w (add_to b i) put_few (put_long u S ws n k.few b z m room put)
+      (added b m u w.tables.now S back ws i (put_appended u S ws n k.few b z m room put) k.spelt a)
 
 -- ---- capabilities
 
@@ -175,98 +187,114 @@ new c xs e = ap (λ (n : ℕ). list_one n c xs) (count xs e)
         by true p f = let z : is_listed c (y ∷ ys) ≡ true = rw p in let q : ◌≡◌ {A = ℕ} 0 1 = cc in absurd (omega arith)
         by false p f = rw p (omega (arith, f (rw (← e) (rw p))))
 
-module _ (w : Writer) (S : List ℕ) (c : ℕ) where
-  -- nothing to list
-  lists_none : Listed [] w S w S
-  unfolding listed
-  lists_none = record { grown = omega arith; held = λ T s h. h }
+-- nothing to list
+pub same_lent : (w : Writer) → SameLent w w
+same_lent w = record { tables = refl; sections = refl; tables_long = refl; sections_long = refl }
 
-  lists_old : is_listed c (part S 0 w.capabilities) ≡ true → Listed (c ∷ []) w S w S
+pub lists_none : (w : Writer) → Listed [] w w
+unfolding listed
+lists_none w = record { few = omega arith; lent = same_lent w; tables = refl; kept = λ room. record { grown = omega arith; tail = record { parts = refl; ids = λ j l. refl; tables = λ z. refl }; held = λ s h. h } }
+
+module _ (w : Writer) (c : ℕ) where
+  -- what the definition makes of the state's capabilities
+  lists : (b : Bool) → is_listed c (part w.sections.now 0 w.used.capabilities) ≡ b → (s : State) → Held w s → is_listed c s.capabilities ≡ b
+  lists b e s h = sym (ap (λ (t : Sections). is_listed c t.capabilities) h.sections) ∙ e
+
+  pub lists_old : is_listed c (part w.sections.now 0 w.used.capabilities) ≡ true → Listed (c ∷ []) w w
   unfolding listed
   lists_old e = record {
-    grown = omega arith;
-    held = λ T s h.
-        let q : s.capabilities ≡ list_one (occurrences c s.capabilities) c s.capabilities =
-        sym (old c s.capabilities (sym (ap (λ (t : Sections). is_listed c t.capabilities) h.sections) ∙ e)) in
-        record {
-          last = h.last;
-          tables = h.tables;
-          small = h.small;
-          sections = h.sections ∙ (λ i. record { capabilities = q i; names = (sections_in s).names; annotations = (sections_in s).annotations; declarations = (sections_in s).declarations });
-        };
+    few = omega arith;
+    lent = same_lent w;
+    tables = refl;
+    kept = λ room. record {
+      grown = omega arith;
+      tail = record { parts = refl; ids = λ j l. refl; tables = λ z. refl };
+      held = λ s h.
+          let q : s.capabilities ≡ list_one (occurrences c s.capabilities) c s.capabilities = sym (old c s.capabilities (lists true e s h)) in
+          record {
+            last = h.last;
+            tables = h.tables;
+            small = h.small;
+            sections = h.sections ∙ (λ i. record (sections_in s) { capabilities = q i });
+          };
+    };
   }
 
-  lists_new : is_listed c (part S 0 w.capabilities) ≡ false → RoomFor (listing_cost 1) w S → Listed (c ∷ []) w S (with_capabilities w (w.capabilities + 1)) (splice S w.capabilities (c ∷ []))
+  pub lists_new : is_listed c (part w.sections.now 0 w.used.capabilities) ≡ false
+      → Listed (c ∷ []) w (record w { used = record w.used { capabilities = w.used.capabilities + 1 }; sections = record w.sections { now = set w.sections.now w.used.capabilities c } })
   unfolding listed
-  lists_new e room = record {
-    grown = omega arith;
-    held = λ T s h.
-        let p = w.capabilities in
-        let q : s.capabilities ++ c ∷ [] ≡ list_one (occurrences c s.capabilities) c s.capabilities =
-        sym (new c s.capabilities (sym (ap (λ (t : Sections). is_listed c t.capabilities) h.sections) ∙ e)) in
-        let f : sections_of (with_capabilities w (w.capabilities + 1)) (splice S p (c ∷ [])) ≡ record { capabilities = (sections_of w S).capabilities ++ c ∷ []; names = (sections_of w S).names; annotations = (sections_of w S).annotations; declarations = (sections_of w S).declarations } = λ i. record {
-          capabilities = part_more S 0 p p (c ∷ []) (omega arith) (omega arith) i;
-          names = part_right S p (c ∷ []) (omega arith) (section_at names w) w.names (omega arith) i;
-          annotations = part_right S p (c ∷ []) (omega arith) (section_at annotations w) w.annotations (omega arith) i;
-          declarations = part_right S p (c ∷ []) (omega arith) (section_at declarations w) w.declarations (omega arith) i;
+  lists_new e = record {
+    few = omega arith;
+    lent = record { tables = refl; sections = refl; tables_long = refl; sections_long = length-set w.sections.now w.used.capabilities c };
+    tables = refl;
+    kept = λ room.
+        let u = w.used in
+        let S = w.sections.now in
+        let p = u.capabilities in
+        let ws = c ∷ [] in
+        let inside : p + 1 ≤ length S = omega arith in
+        let put : set S p c ≡ splice S p ws = sets-eq ws S p inside in
+        let f : sections_of (record u { capabilities = p + 1 }) (splice S p ws) ≡ record (sections_of u S) { capabilities = (sections_of u S).capabilities ++ ws } = λ i. record {
+          capabilities = part_more S 0 p p ws (omega arith) inside i;
+          names = part_right S p ws inside (section_at names u) u.names (omega arith) i;
+          annotations = part_right S p ws inside (section_at annotations u) u.annotations (omega arith) i;
+          declarations = part_right S p ws inside (section_at declarations u) u.declarations (omega arith) i;
         } in
         record {
-          last = h.last;
-          tables = h.tables;
-          small = h.small;
-          sections = f ∙ ap (λ (t : Sections). record { capabilities = t.capabilities ++ c ∷ []; names = t.names; annotations = t.annotations; declarations = t.declarations }) h.sections
-              ∙ (λ i. record { capabilities = q i; names = (sections_in s).names; annotations = (sections_in s).annotations; declarations = (sections_in s).declarations });
+          grown = omega (arith, length-set {A = ℕ});
+          tail = record { parts = refl; ids = λ j l. refl; tables = λ z. refl };
+          held = λ s h.
+              let q : s.capabilities ++ ws ≡ list_one (occurrences c s.capabilities) c s.capabilities = sym (new c s.capabilities (lists false e s h)) in
+              record {
+                last = h.last;
+                tables = h.tables;
+                small = h.small;
+                sections = ap (sections_of (record u { capabilities = p + 1 })) put ∙ f
+                    ∙ ap (λ (t : Sections). record t { capabilities = t.capabilities ++ ws }) h.sections
+                    ∙ (λ i. record (sections_in s) { capabilities = q i });
+              };
         };
-  }
-
--- the same by their count
-module _ (S : List ℕ) (n c : ℕ) where
-  pub counts_none : CountListed [] n S n S
-  counts_none = record { few = omega arith; lists = λ w e room. subst (λ (k : ℕ). Listed [] w S (with_capabilities w k) S) e (lists_none w S c) }
-
-  pub counts_old : is_listed c (part S 0 n) ≡ true → CountListed (c ∷ []) n S n S
-  counts_old l = record {
-    few = omega arith;
-    lists = λ w e room. subst (λ (k : ℕ). Listed (c ∷ []) w S (with_capabilities w k) S) e (lists_old w S c (ap (λ (k : ℕ). is_listed c (part S 0 k)) e ∙ l));
-  }
-
-  pub counts_new : is_listed c (part S 0 n) ≡ false → CountListed (c ∷ []) n S (n + 1) (splice S n (c ∷ []))
-  counts_new l = record {
-    few = omega arith;
-    lists = λ w e room.
-        subst (λ (k : ℕ). Listed (c ∷ []) w S (with_capabilities w (k + 1)) (splice S k (c ∷ []))) e
-        (lists_new w S c (ap (λ (k : ℕ). is_listed c (part S 0 k)) e ∙ l) room);
   }
 
 -- ---- an instruction word by word
 
-pub pending : (w : Writer) (S : List ℕ) (k : ℕ) (ws : List ℕ) (p : ℕ) → p ≡ section_at declarations w + w.declarations + k → RoomFor (declaring (k + length ws)) w S → Pending k ws w S (splice S p ws)
-pending w S k ws p e room =
-    let q : sections_of w (splice S p ws) ≡ sections_of w S = λ i. record {
-      capabilities = part_left S p ws (omega arith) 0 w.capabilities (omega arith) i;
-      names = part_left S p ws (omega arith) (section_at names w) w.names (omega arith) i;
-      annotations = part_left S p ws (omega arith) (section_at annotations w) w.annotations (omega arith) i;
-      declarations = part_left S p ws (omega arith) (section_at declarations w) w.declarations (omega arith) i;
+pub pending : (w : Writer) (k : ℕ) (ws S : List ℕ) (p : ℕ) → p ≡ end_of declarations w.used + k → S ≡ splice w.sections.now p ws → RoomFor (declaring (k + length ws)) w
+    → Pending k ws w (record w { sections = record w.sections { now = S } })
+pending w k ws S p at e room =
+    let u = w.used in
+    let R = w.sections.now in
+    let q : sections_of u (splice R p ws) ≡ sections_of u R = λ i. record {
+      capabilities = part_left R p ws (omega arith) 0 u.capabilities (omega arith) i;
+      names = part_left R p ws (omega arith) (section_at names u) u.names (omega arith) i;
+      annotations = part_left R p ws (omega arith) (section_at annotations u) u.annotations (omega arith) i;
+      declarations = part_left R p ws (omega arith) (section_at declarations u) u.declarations (omega arith) i;
     } in
-    record {
-      still = λ T s h. record { last = h.last; tables = h.tables; small = h.small; sections = q ∙ h.sections };
-      more = part_more S (section_at declarations w + w.declarations) k p ws (omega arith) (omega arith);
-    }
+    rw e (record {
+      lent = omega (arith, splice-length R p ws (omega arith));
+      used = refl;
+      tables = refl;
+      still = λ s h. record { last = h.last; tables = h.tables; small = h.small; sections = q ∙ h.sections };
+      more = part_more R (end_of declarations u) k p ws at (omega arith);
+    })
 
-pub committed : (w : Writer) (n : ℕ) → Committed n w (more declarations w n)
+pub committed : (w : Writer) (n : ℕ) → Committed n w (record w { used = more declarations w.used n })
 unfolding listed
 committed w n = record {
   grown = omega arith;
-  held = λ T S s i e h.
+  tail = record { parts = refl; ids = λ j l. refl; tables = λ z. refl };
+  sections = refl;
+  held = λ s i e h.
+      let u = w.used in
+      let S = w.sections.now in
       let f = sym e in
-      let d : part S (section_at declarations w) (w.declarations + n) ≡ part S (section_at declarations w) w.declarations ++ part S (section_at declarations w + w.declarations) n =
-      take-add w.declarations n (drop (section_at declarations w) S) ∙ ap (λ (l : List ℕ). part S (section_at declarations w) w.declarations ++ take n l) (drop-drop w.declarations (section_at declarations w) S) in
+      let d : part S (section_at declarations u) (u.declarations + n) ≡ part S (section_at declarations u) u.declarations ++ part S (end_of declarations u) n =
+      take-add u.declarations n (drop (section_at declarations u) S) ∙ ap (λ (l : List ℕ). part S (section_at declarations u) u.declarations ++ take n l) (drop-drop u.declarations (section_at declarations u) S) in
       record {
         last = h.last;
         tables = h.tables;
         small = h.small;
-        sections = (λ j. record { capabilities = (sections_of w S).capabilities; names = (sections_of w S).names; annotations = (sections_of w S).annotations; declarations = d j })
-            ∙ (λ j. record { capabilities = (h.sections j).capabilities; names = (h.sections j).names; annotations = (h.sections j).annotations; declarations = (h.sections j).declarations ++ f j })
-            ∙ (λ j. record { capabilities = (sections_in s).capabilities; names = (sections_in s).names; annotations = (sections_in s).annotations; declarations = words_snoc s.declarations i j });
+        sections = (λ j. record (sections_of u S) { declarations = d j })
+            ∙ (λ j. record (h.sections j) { declarations = (h.sections j).declarations ++ f j })
+            ∙ (λ j. record (sections_in s) { declarations = words_snoc s.declarations i j });
       };
 }

@@ -20,6 +20,10 @@ pub record Cost : Type 0 where
 abbrev pub no_cost : Cost
 no_cost = record { types = 0; literals = 0; nulls = 0; values = 0; composites = 0; blocked = 0; parts = 0; capabilities = 0; names = 0; annotations = 0; declarations = 0; ids = 0 }
 
+-- what it has of the tables
+abbrev pub rows_of : Cost → ℕ
+rows_of c = c.types + c.literals + c.nulls + c.values + c.composites + c.blocked + c.parts
+
 -- one after the other
 infixl 6 ◌⊕◌
 abbrev pub ◌⊕◌ : Cost → Cost → Cost

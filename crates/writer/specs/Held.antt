@@ -1,4 +1,4 @@
--- How a writer and its two lists hold a state.
+-- How a writer holds a state in the two slices that it is lent.
 use Rattle.std.specs.Prelude.{ℕ, ◌+◌, ◌*◌, ◌≤◌, ◌<◌, ◌≡◌, List, [], ◌∷◌, ◌++◌, map, length}
 use Rattle.std.specs.Prelude.{Option, Some, None}
 use Rattle.definition.specs.Literals.{Literal}
@@ -8,6 +8,7 @@ use Rattle.definition.specs.State.{State, Composite, composite, Valued, function
 use Rattle.definition.specs.Rules.{blocked}
 use Rattle.literals.specs.Forms.{literal_form, bits_of}
 use Rattle.lookup.specs.Packed.{packed_key, code, Small}
+use Rattle.writer.specs.declared.Used.{Used}
 use Rattle.writer.specs.declared.Writer.{Writer}
 use Rattle.spirv.specs.Ids.{low}
 use Rattle.writer.specs.Rows.{TableRow, table_row, pair, triple, table_rows, part}
@@ -32,23 +33,23 @@ pub record Sections : Type 0 where
   pub declarations : List ℕ
 
 -- as they lie in the two lists
-abbrev pub tables_of : Writer → List ℕ → Tables
-tables_of w T = record {
-  types = table_rows pair T 0 w.types;
-  literals = table_rows triple T (literals_at w) w.literals;
-  nulls = table_rows pair T (nulls_at w) w.nulls;
-  values = table_rows triple T (values_at w) w.values;
-  composites = table_rows triple T (composites_at w) w.composites;
-  blocked = part T (blocked_at w) w.blocked;
-  parts = part T (parts_at w) w.parts;
+abbrev pub tables_of : Used → List ℕ → Tables
+tables_of u T = record {
+  types = table_rows pair T 0 u.types;
+  literals = table_rows triple T (literals_at u) u.literals;
+  nulls = table_rows pair T (nulls_at u) u.nulls;
+  values = table_rows triple T (values_at u) u.values;
+  composites = table_rows triple T (composites_at u) u.composites;
+  blocked = part T (blocked_at u) u.blocked;
+  parts = part T (parts_at u) u.parts;
 }
 
-abbrev pub sections_of : Writer → List ℕ → Sections
-sections_of w S = record {
-  capabilities = part S 0 w.capabilities;
-  names = part S (section_at names w) w.names;
-  annotations = part S (section_at annotations w) w.annotations;
-  declarations = part S (section_at declarations w) w.declarations;
+abbrev pub sections_of : Used → List ℕ → Sections
+sections_of u S = record {
+  capabilities = part S 0 u.capabilities;
+  names = part S (section_at names u) u.names;
+  annotations = part S (section_at annotations u) u.annotations;
+  declarations = part S (section_at declarations u) u.declarations;
 }
 
 -- as the state has them
@@ -136,53 +137,73 @@ pub record Digits (types : List (Key × ℕ)) (composites : List (Composite × �
   pub composed : All SmallComposite composites
   pub kinds : AllKinds values
 
--- ---- the writer and its lists hold the state
+-- ---- the writer holds the state
 
-pub record Held (w : Writer) (T S : List ℕ) (s : State) : Type 0 where
-  pub last : w.idgen.last ≡ s.last
-  pub tables : tables_of w T ≡ tables_in s
+-- by how much of two lists is in use
+pub record HeldIn (u : Used) (T S : List ℕ) (s : State) : Type 0 where
+  pub last : u.idgen.last ≡ s.last
+  pub tables : tables_of u T ≡ tables_in s
   pub small : Digits s.types s.constants.composites s.constants.values
-  pub sections : sections_of w S ≡ sections_in s
+  pub sections : sections_of u S ≡ sections_in s
+
+abbrev pub Held : Writer → State → Type 0
+Held w s = HeldIn w.used w.tables.now w.sections.now s
 
 -- ---- room, and growth
 
-pub record RoomIn (c : Cost) (w : Writer) (T : List ℕ) : Type 0 where
-  pub in_list : 20 * w.records + w.bytes ≤ length T
-  pub in_types : w.types + c.types ≤ 4 * w.records
-  pub in_literals : w.literals + c.literals ≤ w.records
-  pub in_nulls : w.nulls + c.nulls ≤ w.records
-  pub in_values : w.values + c.values ≤ w.records
-  pub in_composites : w.composites + c.composites ≤ w.records
-  pub in_blocked : w.blocked + c.blocked ≤ w.records
-  pub in_parts : w.parts + c.parts ≤ w.bytes
-  pub in_ids : w.idgen.last + c.ids < 9223372036854775808
+pub record RowsFit (c : Cost) (u : Used) (T : List ℕ) : Type 0 where
+  pub in_list : 20 * u.records + u.bytes ≤ length T
+  pub in_types : u.types + c.types ≤ 4 * u.records
+  pub in_literals : u.literals + c.literals ≤ u.records
+  pub in_nulls : u.nulls + c.nulls ≤ u.records
+  pub in_values : u.values + c.values ≤ u.records
+  pub in_composites : u.composites + c.composites ≤ u.records
+  pub in_blocked : u.blocked + c.blocked ≤ u.records
+  pub in_parts : u.parts + c.parts ≤ u.bytes
+  pub in_ids : u.idgen.last + c.ids < 9223372036854775808
 
-pub record RoomFor (c : Cost) (w : Writer) (S : List ℕ) : Type 0 where
-  pub in_list : 7 * w.bytes ≤ length S
-  pub in_capabilities : w.capabilities + c.capabilities ≤ w.bytes
-  pub in_names : w.names + c.names ≤ w.bytes
-  pub in_annotations : w.annotations + c.annotations ≤ 2 * w.bytes
-  pub in_declarations : w.declarations + c.declarations ≤ 3 * w.bytes
+pub record WordsFit (c : Cost) (u : Used) (S : List ℕ) : Type 0 where
+  pub in_list : 7 * u.bytes ≤ length S
+  pub in_capabilities : u.capabilities + c.capabilities ≤ u.bytes
+  pub in_names : u.names + c.names ≤ u.bytes
+  pub in_annotations : u.annotations + c.annotations ≤ 2 * u.bytes
+  pub in_declarations : u.declarations + c.declarations ≤ 3 * u.bytes
+
+-- in its tables
+abbrev pub RoomIn : Cost → Writer → Type 0
+RoomIn c w = RowsFit c w.used w.tables.now
+
+-- in its sections
+abbrev pub RoomFor : Cost → Writer → Type 0
+RoomFor c w = WordsFit c w.used w.sections.now
 
 -- both
-pub record Room (c : Cost) (w : Writer) (T S : List ℕ) : Type 0 where
-  pub rows : RoomIn c w T
-  pub words : RoomFor c w S
+pub record Room (c : Cost) (w : Writer) : Type 0 where
+  pub rows : RoomIn c w
+  pub words : RoomFor c w
+
+-- it is lent the same slices, which are as long as before
+pub record SameLent (w v : Writer) : Type 0 where
+  pub tables : v.tables.ghost_name ≡ w.tables.ghost_name
+  pub sections : v.sections.ghost_name ≡ w.sections.ghost_name
+  pub tables_long : length v.tables.now ≡ length w.tables.now
+  pub sections_long : length v.sections.now ≡ length w.sections.now
 
 -- after an operation of a cost there is at most that much more
 pub record Grown (c : Cost) (w v : Writer) : Type 0 where
-  pub records : v.records ≡ w.records
-  pub bytes : v.bytes ≡ w.bytes
-  pub types : v.types ≤ w.types + c.types
-  pub literals : v.literals ≤ w.literals + c.literals
-  pub nulls : v.nulls ≤ w.nulls + c.nulls
-  pub values : v.values ≤ w.values + c.values
-  pub composites : v.composites ≤ w.composites + c.composites
-  pub blocked : v.blocked ≤ w.blocked + c.blocked
-  pub parts : v.parts ≤ w.parts + c.parts
-  pub parts_kept : w.parts ≤ v.parts
-  pub capabilities : v.capabilities ≤ w.capabilities + c.capabilities
-  pub names : v.names ≤ w.names + c.names
-  pub annotations : v.annotations ≤ w.annotations + c.annotations
-  pub declarations : v.declarations ≤ w.declarations + c.declarations
-  pub last : v.idgen.last ≤ w.idgen.last + c.ids
+  pub lent : SameLent w v
+  pub records : v.used.records ≡ w.used.records
+  pub bytes : v.used.bytes ≡ w.used.bytes
+  pub types : v.used.types ≤ w.used.types + c.types
+  pub literals : v.used.literals ≤ w.used.literals + c.literals
+  pub nulls : v.used.nulls ≤ w.used.nulls + c.nulls
+  pub values : v.used.values ≤ w.used.values + c.values
+  pub composites : v.used.composites ≤ w.used.composites + c.composites
+  pub blocked : v.used.blocked ≤ w.used.blocked + c.blocked
+  pub parts : v.used.parts ≤ w.used.parts + c.parts
+  pub parts_kept : w.used.parts ≤ v.used.parts
+  pub capabilities : v.used.capabilities ≤ w.used.capabilities + c.capabilities
+  pub names : v.used.names ≤ w.used.names + c.names
+  pub annotations : v.used.annotations ≤ w.used.annotations + c.annotations
+  pub declarations : v.used.declarations ≤ w.used.declarations + c.declarations
+  pub last : v.used.idgen.last ≤ w.used.idgen.last + c.ids

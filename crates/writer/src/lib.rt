@@ -7,19 +7,18 @@ pub mod sections;
 
 ghost use Rattle.std.specs.Prelude.{◌≡◌, List, [], ◌∷◌, ℕ, ◌+◌, ◌*◌, ◌≤◌, ◌<◌, length, Bool, option_map};
 ghost use Rattle.std.specs.List.{find};
-ghost use Rattle.definition.specs.State.{empty, annotate};
+ghost use Rattle.definition.specs.State.{annotate};
 ghost use Rattle.definition.specs.Rules.{block, block_once};
 ghost use Rattle.definition.specs.Instructions.{Instruction, constant_composite, type_function, name, member_name};
 ghost use Rattle.spirv.specs.Sections.{splice};
 ghost use Rattle.lookup.specs.Local.{one_or_none};
-ghost use Rattle.writer.specs.Rows.{Computes, pair, triple, table_rows, seek_in, same_list, seek_parts, part};
-ghost use Rattle.writer.specs.Regions.{parts_at, names, annotations, declarations};
-ghost use Rattle.writer.specs.Cost.{no_cost, a_type, a_literal, a_null, a_value, a_composite, staging, naming, a_block, declaring};
-ghost use Rattle.writer.specs.Held.{Held, RoomIn, RoomFor, Room};
-ghost use Rattle.writer.specs.Steps.{fresh, Kept, FindsBlock, Took, FindsType, FindsLiteral, FindsNull, FindsComposite, EnteredType, EnteredLiteral, EnteredNull, EnteredComposite, EnteredValue, ValueAt, Puts, PutsWords, Spells, CountListed, Pending, Committed};
+ghost use Rattle.writer.specs.Rows.{Computes, pair, triple, table_rows, seek_in, same_list, seek_parts, part, is_listed};
+ghost use Rattle.writer.specs.Regions.{names, declarations};
+ghost use Rattle.writer.specs.Cost.{no_cost, a_type, a_literal, a_null, a_value, a_composite, staging, naming, a_block, declaring, listing_cost};
+ghost use Rattle.writer.specs.Held.{RoomIn, RoomFor, Room};
+ghost use Rattle.writer.specs.Steps.{none_used, Fresh, Emptied, Kept, Took, FindsBlock, FindsType, FindsLiteral, FindsNull, FindsComposite, EnteredType, EnteredLiteral, EnteredNull, EnteredComposite, EnteredValue, ValueAt, Puts, PutsWords, Spells, Listed, Pending, Committed, with_part, staged};
 
-use crate::sections::{constant_composite, type_function};
-use spirv::instructions::DECORATION_BLOCK;
+use spirv::decorations::Decoration;
 use spirv::words::Word;
 use spirv::{IdGenerator, instructions, low_word};
 
@@ -46,9 +45,9 @@ pub const ANNOTATIONS: usize = 2;
 
 pub const DECLARATIONS: usize = 4;
 
-// `records` and `bytes` say how large a sheet there is room for; the other numbers are rows, ids or words in use.
+// How much is in use: `records` and `bytes` say how large a sheet there is room for; the other numbers are rows, ids or words.
 #[derive(Clone, Copy)]
-pub struct Writer {
+pub struct Used {
     pub records: usize,
     pub bytes: usize,
     pub idgen: IdGenerator,
@@ -65,14 +64,17 @@ pub struct Writer {
     pub declarations: usize,
 }
 
-// An id, and the writer that holds what it stands for.
-#[derive(Clone, Copy)]
-pub struct Taken {
-    pub id: u64,
-    pub writer: Writer,
+// The two slices that the caller lends, and how much of each is in use. That there is room is asked by each function, at what it may
+// add, and is no invariant of the type: `new` takes slices and numbers of any size.
+#[derive(Drop)]
+pub struct Writer<'t, 's> {
+    pub tables: &'t mut [u64],
+    pub sections: &'s mut [u32],
+    pub used: Used,
 }
 
-// A constant of the sheet: its id, its type's id, and the code of its kind where a Splat may repeat it, plus 1; 0 where not.
+// A constant of the sheet: its id, its type's id, and the code of its kind where a Splat may repeat it, plus 1; 0 where not. The kind is
+// as the row has it: with an Option `enter_value` could not take every number that it takes.
 #[derive(Clone, Copy)]
 pub struct WrittenConstant {
     pub id: u64,
@@ -80,11 +82,11 @@ pub struct WrittenConstant {
     pub kind: u64,
 }
 
-// A writer that holds nothing but the last id already given out.
-pub fn new(records: usize, bytes: usize, start: u64) -> Writer
-    ensures { (result ≡ fresh records bytes start) × ((T S : List ℕ) → Held result T S (empty start)) }
+// Nothing, but the last id already given out.
+fn unused(records: usize, bytes: usize, start: u64) -> Used
+    ensures { result ≡ none_used records bytes start }
 {
-    Writer {
+    Used {
         records,
         bytes,
         idgen: IdGenerator { last: start },
@@ -102,21 +104,7 @@ pub fn new(records: usize, bytes: usize, start: u64) -> Writer
     }
 }
 
-pub fn take_id(mut w: Writer) -> Taken
-    requires { w.idgen.last < 9223372036854775808 }
-    ensures { Took w result }
-{
-    let g = w.idgen;
-    let next = g.next();
-    let h = next.idgen;
-    w.idgen = h;
-    Taken {
-        id: next.id,
-        writer: w,
-    }
-}
-
-// ---- tables: searched in order of entry
+// ---- searches and stores in one slice
 
 // The first row that passes, four a turn: `find`, which looks for the end at each row, takes twice the instructions.
 fn first<T, P: Fn(&T) -> bool + Drop>(rows: &[T], passes: P) -> Option<&T>
@@ -140,7 +128,8 @@ fn first<T, P: Fn(&T) -> bool + Drop>(rows: &[T], passes: P) -> Option<&T>
     None
 }
 
-// The id of the first of n rows under a key of one number.
+// The id of the first of n rows under a key of one number. The whole table is given, and where the rows start in it: so the definition
+// speaks of rows.
 fn seek_key(tables: &[u64], start: usize, n: usize, a: u64) -> Option<u64>
     requires { start + 2 * n ≤ length tables.now }
     ensures { result ≡ seek_in a 0 (table_rows pair tables.now start n) }
@@ -156,27 +145,6 @@ fn seek(tables: &[u64], start: usize, n: usize, a: u64, b: u64) -> Option<u64>
 {
     let (rows, _) = tables[start..start + 3 * n].as_chunks::<3>();
     first(rows, |row| row[1] == b && row[0] == a).map(|row| row[2])
-}
-
-pub fn find_type(tables: &[u64], w: Writer, key: u64) -> Option<u64>
-    requires { RoomIn no_cost w tables.now }
-    ensures { FindsType key w tables.now result }
-{
-    seek_key(tables, 0, w.types, key)
-}
-
-pub fn find_literal(tables: &[u64], w: Writer, form: u64, bits: u64) -> Option<u64>
-    requires { RoomIn no_cost w tables.now }
-    ensures { FindsLiteral form bits w tables.now result }
-{
-    seek(tables, LITERALS * w.records, w.literals, form, bits)
-}
-
-pub fn find_null(tables: &[u64], w: Writer, ty: u64) -> Option<u64>
-    requires { RoomIn no_cost w tables.now }
-    ensures { FindsNull ty w tables.now result }
-{
-    seek_key(tables, NULLS * w.records, w.nulls, ty)
 }
 
 // Whether the n numbers from p on are those from q on: the last first, in which composites that begin alike often differ.
@@ -246,23 +214,6 @@ fn seek_parts(
     None
 }
 
-// The composite under a key of the n parts that stand behind those in use.
-pub fn find_composite(tables: &[u64], w: Writer, key: u64, n: usize) -> Option<u64>
-    requires { RoomIn (staging n) w tables.now }
-    ensures { FindsComposite key n w tables.now result }
-{
-    let parts = PARTS * w.records;
-    seek_parts(
-        tables,
-        COMPOSITES * w.records,
-        w.composites,
-        parts,
-        parts + w.parts,
-        n,
-        key,
-    )
-}
-
 // Puts a row at a place.
 fn put_row<const N: usize>(tables: &mut [u64], p: usize, row: [u64; N])
     requires { p + N ≤ length tables.old }
@@ -271,251 +222,325 @@ fn put_row<const N: usize>(tables: &mut [u64], p: usize, row: [u64; N])
     tables[p..p + N].copy_from_slice(&row);
 }
 
-pub fn enter_type(tables: &mut [u64], mut w: Writer, key: u64, id: u64) -> Writer
-    requires { RoomIn a_type w tables.old }
-    ensures { EnteredType key id w tables.old result tables.new }
-{
-    put_row(tables, 2 * w.types, [key, id]);
-    w.types += 1;
-    w
-}
+impl<'t, 's> Writer<'t, 's> {
+    // A writer over two slices, for a sheet of so many records and bytes. It holds nothing.
+    pub fn new(
+        tables: &'t mut [u64],
+        sections: &'s mut [u32],
+        records: usize,
+        bytes: usize,
+    ) -> Writer<'t, 's>
+        ensures lent { (result.tables.ghost_name ≡ tables.entry.ghost_name) × (result.sections.ghost_name ≡ sections.entry.ghost_name) }
+        ensures same { (result.tables.now ≡ tables.old) × (result.sections.now ≡ sections.old) }
+        ensures fresh { Fresh records bytes 0 result }
+    {
+        Writer {
+            tables,
+            sections,
+            used: unused(records, bytes, 0),
+        }
+    }
 
-pub fn enter_literal(tables: &mut [u64], mut w: Writer, form: u64, bits: u64, id: u64) -> Writer
-    requires { RoomIn a_literal w tables.old }
-    ensures { EnteredLiteral form bits id w tables.old result tables.new }
-{
-    put_row(
-        tables,
-        LITERALS * w.records + 3 * w.literals,
-        [form, bits, id],
-    );
-    w.literals += 1;
-    w
-}
+    // Holds nothing from here on but the last id already given out.
+    pub fn reset(&mut self, start: u64)
+        ensures { Emptied start self.old self.new }
+    {
+        self.used = unused(self.used.records, self.used.bytes, start);
+    }
 
-pub fn enter_null(tables: &mut [u64], mut w: Writer, ty: u64, id: u64) -> Writer
-    requires { RoomIn a_null w tables.old }
-    ensures { EnteredNull ty id w tables.old result tables.new }
-{
-    put_row(tables, NULLS * w.records + 2 * w.nulls, [ty, id]);
-    w.nulls += 1;
-    w
-}
+    pub fn take_id(&mut self) -> u64
+        requires { self.old.used.idgen.last < 9223372036854775808 }
+        ensures { Took self.old result self.new }
+    {
+        let next = self.used.idgen.next();
+        self.used.idgen = next.idgen;
+        next.id
+    }
 
-// A constant of the sheet.
-pub fn enter_value(tables: &mut [u64], mut w: Writer, id: u64, ty: u64, kind: u64) -> Writer
-    requires { RoomIn a_value w tables.old }
-    ensures { EnteredValue id ty kind w tables.old result tables.new }
-{
-    put_row(tables, VALUES * w.records + 3 * w.values, [id, ty, kind]);
-    w.values += 1;
-    w
-}
+    // ---- tables: searched in order of entry
 
-// Constant c of the sheet; past the end it reads as none.
-pub fn value_at(tables: &[u64], w: Writer, c: usize) -> WrittenConstant
-    requires { RoomIn no_cost w tables.now }
-    ensures { ValueAt c w tables.now result }
-{
-    if w.values <= c {
-        return WrittenConstant {
-            id: 0,
-            ty: 0,
-            kind: 0,
+    #[tactic(auto, using(crate::proofs::Search::finds_type))]
+    pub fn find_type(&self, key: u64) -> Option<u64>
+        requires { RoomIn no_cost self.now }
+        ensures { FindsType key self.now result }
+    {
+        seek_key(self.tables, 0, self.used.types, key)
+    }
+
+    #[tactic(auto, using(crate::proofs::Search::finds_literal))]
+    pub fn find_literal(&self, form: u64, bits: u64) -> Option<u64>
+        requires { RoomIn no_cost self.now }
+        ensures { FindsLiteral form bits self.now result }
+    {
+        seek(
+            self.tables,
+            LITERALS * self.used.records,
+            self.used.literals,
+            form,
+            bits,
+        )
+    }
+
+    #[tactic(auto, using(crate::proofs::Search::finds_null))]
+    pub fn find_null(&self, ty: u64) -> Option<u64>
+        requires { RoomIn no_cost self.now }
+        ensures { FindsNull ty self.now result }
+    {
+        seek_key(self.tables, NULLS * self.used.records, self.used.nulls, ty)
+    }
+
+    // The composite under a key of the n parts that stand behind those in use.
+    #[tactic(auto, using(crate::proofs::Parts::finds_composite))]
+    pub fn find_composite(&self, key: u64, n: usize) -> Option<u64>
+        requires { RoomIn (staging n) self.now }
+        ensures { FindsComposite key n self.now result }
+    {
+        let parts = PARTS * self.used.records;
+        seek_parts(
+            self.tables,
+            COMPOSITES * self.used.records,
+            self.used.composites,
+            parts,
+            parts + self.used.parts,
+            n,
+            key,
+        )
+    }
+
+    // Each puts a row of its own behind those of its table and raises that table's count; one function for all would only be told which.
+    #[tactic(auto, using(crate::proofs::Tables::entered_type))]
+    pub fn enter_type(&mut self, key: u64, id: u64)
+        requires { RoomIn a_type self.old }
+        ensures { EnteredType key id self.old self.new }
+    {
+        put_row(self.tables, 2 * self.used.types, [key, id]);
+        self.used.types += 1;
+    }
+
+    #[tactic(auto, using(crate::proofs::Tables::entered_literal))]
+    pub fn enter_literal(&mut self, form: u64, bits: u64, id: u64)
+        requires { RoomIn a_literal self.old }
+        ensures { EnteredLiteral form bits id self.old self.new }
+    {
+        let p = LITERALS * self.used.records + 3 * self.used.literals;
+        put_row(self.tables, p, [form, bits, id]);
+        self.used.literals += 1;
+    }
+
+    #[tactic(auto, using(crate::proofs::Tables::entered_null))]
+    pub fn enter_null(&mut self, ty: u64, id: u64)
+        requires { RoomIn a_null self.old }
+        ensures { EnteredNull ty id self.old self.new }
+    {
+        let p = NULLS * self.used.records + 2 * self.used.nulls;
+        put_row(self.tables, p, [ty, id]);
+        self.used.nulls += 1;
+    }
+
+    // A constant of the sheet.
+    #[tactic(auto, using(crate::proofs::Tables::entered_value))]
+    pub fn enter_value(&mut self, id: u64, ty: u64, kind: u64)
+        requires { RoomIn a_value self.old }
+        ensures { EnteredValue id ty kind self.old self.new }
+    {
+        let p = VALUES * self.used.records + 3 * self.used.values;
+        put_row(self.tables, p, [id, ty, kind]);
+        self.used.values += 1;
+    }
+
+    // Constant c of the sheet; past the end it reads as none.
+    #[tactic(auto, using(crate::proofs::Values::value_there))]
+    pub fn value_at(&self, c: usize) -> WrittenConstant
+        requires { RoomIn no_cost self.now }
+        ensures { ValueAt c self.now result }
+    {
+        if self.used.values <= c {
+            return WrittenConstant {
+                id: 0,
+                ty: 0,
+                kind: 0,
+            };
+        }
+        let p = VALUES * self.used.records + 3 * c;
+        WrittenConstant {
+            id: self.tables[p],
+            ty: self.tables[p + 1],
+            kind: self.tables[p + 2],
+        }
+    }
+
+    // ---- composites: parts are put behind those in use, where no composite has them, until theirs is entered
+
+    // Part i of a composite that is not entered yet.
+    pub fn stage_part(&mut self, i: usize, id: u64)
+        requires { RoomIn (staging (i + 1)) self.old }
+        ensures { self.new ≡ with_part i id self.old }
+    {
+        let p = PARTS * self.used.records + self.used.parts + i;
+        self.tables[p] = id;
+    }
+
+    // The n parts that stand behind those in use are a composite's.
+    #[tactic(auto, using(crate::proofs::Tables::entered_composite))]
+    pub fn enter_composite(&mut self, key: u64, n: usize, id: u64)
+        requires { RoomIn (a_composite n) self.old }
+        ensures { EnteredComposite key n id self.old self.new }
+    {
+        let p = COMPOSITES * self.used.records + 3 * self.used.composites;
+        put_row(self.tables, p, [key, n as u64, id]);
+        self.used.composites += 1;
+        self.used.parts += n;
+    }
+
+    // ---- names, and what is put from the tables; `sections` has the other instructions
+
+    // Puts an instruction behind the names in use, into what is left there, and adds its words to the count.
+    fn put_name<F: FnOnce(&mut [u32]) -> usize>(&mut self, put: F)
+        requires callable { F.IsAlwaysCallable put }
+        requires room { (ws : List ℕ) × PutsWords F.FnOnce put ws × RoomFor (naming (length ws)) self.old }
+        ensures { (i : Instruction) (n : ℕ) (ws : List ℕ) → PutsWords F.FnOnce put ws → Spells n i ws → RoomFor (naming n) self.old → Puts names n i self.old self.new }
+    {
+        let start = NAMES * self.used.bytes + self.used.names;
+        let n = put(&mut self.sections[start..]);
+        self.used.names += n;
+    }
+
+    // Whether names are wanted is for the caller to ask (flag bit 0).
+    pub fn label(&mut self, target: u64, bytes: &[u8])
+        requires { (length bytes.now < 256) × RoomFor (naming (length bytes.now + 3)) self.old }
+        ensures { Puts names (length bytes.now + 3) (name target bytes.now) self.old self.new }
+    {
+        self.put_name(|left| instructions::name(left, low_word(target), bytes));
+    }
+
+    // The same of a member, which has no id of its own: the struct's, and its place there.
+    pub fn label_member(&mut self, target: u64, member: u32, bytes: &[u8])
+        requires { (length bytes.now < 256) × RoomFor (naming (length bytes.now + 4)) self.old }
+        ensures { Puts names (length bytes.now + 4) (member_name target member bytes.now) self.old self.new }
+    {
+        self.put_name(|left| instructions::member_name(left, low_word(target), member, bytes));
+    }
+
+    // Declares the composite of the n parts that stand behind those in use. The bound on n, here and below, keeps the word count in 16
+    // bits.
+    pub fn declare_composite(&mut self, ty: u64, id: u64, n: usize)
+        requires { (n < 65000) × RoomIn (staging n) self.old × RoomFor (declaring (n + 3)) self.old }
+        ensures { Puts declarations (n + 3) (constant_composite ty id (staged n self.old)) self.old self.new }
+    {
+        let from = PARTS * self.used.records + self.used.parts;
+        let start = DECLARATIONS * self.used.bytes + self.used.declarations;
+        // Taken out for the call, which is lent the sections too.
+        let tables = std::mem::take(&mut self.tables);
+        let words = instructions::constant_composite(
+            &mut self.sections[start..],
+            low_word(ty),
+            low_word(id),
+            &tables[from..from + n],
+        );
+        self.tables = tables;
+        self.used.declarations += words;
+    }
+
+    // Declares the function type of the n ids that stand there, the return type's first.
+    pub fn declare_function(&mut self, id: u64, n: usize)
+        requires { (n < 65000) × RoomIn (staging n) self.old × RoomFor (declaring (n + 2)) self.old }
+        ensures { Puts declarations (n + 2) (type_function id (staged n self.old)) self.old self.new }
+    {
+        let from = PARTS * self.used.records + self.used.parts;
+        let start = DECLARATIONS * self.used.bytes + self.used.declarations;
+        let tables = std::mem::take(&mut self.tables);
+        let words = instructions::type_function(
+            &mut self.sections[start..],
+            low_word(id),
+            &tables[from..from + n],
+        );
+        self.tables = tables;
+        self.used.declarations += words;
+    }
+
+    // ---- Block, whose ids are kept: it goes on an id once
+
+    // Whether an id carries Block.
+    fn is_blocked(&self, id: u64) -> bool
+        requires { RoomIn no_cost self.now }
+        ensures { FindsBlock id self.now result }
+    {
+        let start = BLOCKED * self.used.records;
+        self.tables[start..start + self.used.blocked].contains(&id)
+    }
+
+    // Puts Block on an id that has none yet, which is for the caller to know.
+    pub fn put_block(&mut self, id: u64)
+        requires { Room a_block self.old }
+        ensures { Kept a_block (annotate (block id)) self.old self.new }
+    {
+        let start = ANNOTATIONS * self.used.bytes + self.used.annotations;
+        let n = instructions::decorate(
+            &mut self.sections[start..],
+            low_word(id),
+            Decoration::Block,
+            &[],
+        );
+        let p = BLOCKED * self.used.records + self.used.blocked;
+        self.tables[p] = id;
+        self.used.annotations += n;
+        self.used.blocked += 1;
+    }
+
+    // The same of any id: where Block is, it stays, and is not written again.
+    pub fn block_once(&mut self, id: u64)
+        requires { Room a_block self.old }
+        ensures { Kept a_block (block_once id) self.old self.new }
+    {
+        if !self.is_blocked(id) {
+            self.put_block(id);
+        }
+    }
+
+    // ---- an instruction word by word
+
+    // A word of an instruction that is not whole yet, behind the declarations in use.
+    pub fn put_pending(&mut self, k: usize, x: u32)
+        requires { RoomFor (declaring (k + 1)) self.old }
+        ensures { Pending k (x ∷ []) self.old self.new }
+    {
+        let p = DECLARATIONS * self.used.bytes + self.used.declarations + k;
+        self.sections[p] = x;
+    }
+
+    // The n words pending are an instruction.
+    pub fn commit(&mut self, n: usize)
+        requires { self.old.used.declarations + n < 9223372036854775808 }
+        ensures { Committed n self.old self.new }
+    {
+        self.used.declarations += n;
+    }
+
+    // ---- capabilities
+
+    // Whether a capability is listed.
+    #[tactic(auto, using(crate::proofs::Words::is_any))]
+    fn is_listed(&self, capability: u32) -> bool
+        requires { self.now.used.capabilities ≤ length self.now.sections.now }
+        ensures { result ≡ is_listed capability (part self.now.sections.now 0 self.now.used.capabilities) }
+    {
+        self.sections[..self.used.capabilities].contains(&capability)
+    }
+
+    // Lists a capability, if there is one, behind the others at its first use.
+    #[tactic(auto, using(crate::proofs::Words::lists_none, crate::proofs::Words::lists_old))]
+    pub fn list_capability<C: Word>(&mut self, capability: Option<C>)
+        requires { self.old.used.capabilities < length self.old.sections.now }
+        ensures { Listed (one_or_none (option_map C.as_word capability)) self.old self.new }
+    {
+        let Some(capability) = capability else {
+            return;
         };
+        let number = capability.word();
+        if self.is_listed(number) {
+            return;
+        }
+        self.sections[self.used.capabilities] = number;
+        self.used.capabilities += 1;
     }
-    let p = VALUES * w.records + 3 * c;
-    WrittenConstant {
-        id: tables[p],
-        ty: tables[p + 1],
-        kind: tables[p + 2],
-    }
-}
-
-// ---- composites: parts are put behind those in use, where no composite has them, until theirs is entered
-
-// Part i of a composite that is not entered yet.
-pub fn stage_part(tables: &mut [u64], w: Writer, i: usize, id: u64)
-    requires { RoomIn (staging (i + 1)) w tables.old }
-    ensures { tables.new ≡ splice tables.old (parts_at w + w.parts + i) (id ∷ []) }
-{
-    let p = PARTS * w.records + w.parts + i;
-    tables[p] = id;
-}
-
-// The n parts that stand behind those in use are a composite's.
-pub fn enter_composite(tables: &mut [u64], mut w: Writer, key: u64, n: usize, id: u64) -> Writer
-    requires { RoomIn (a_composite n) w tables.old }
-    ensures { EnteredComposite key n id w tables.old result tables.new }
-{
-    put_row(
-        tables,
-        COMPOSITES * w.records + 3 * w.composites,
-        [key, n as u64, id],
-    );
-    w.composites += 1;
-    w.parts += n;
-    w
-}
-
-// ---- names, and what is put from the tables; `sections` has the other instructions
-
-// Puts an instruction behind the names in use, into what is left there, and adds its words to the count.
-fn put_name<F: FnOnce(&mut [u32]) -> usize>(sections: &mut [u32], mut w: Writer, put: F) -> Writer
-    requires callable { F.IsAlwaysCallable put }
-    requires room { (ws : List ℕ) × PutsWords F.FnOnce put ws × RoomFor (naming (length ws)) w sections.old }
-    ensures { (i : Instruction) (n : ℕ) (ws : List ℕ) → PutsWords F.FnOnce put ws → Spells n i ws → RoomFor (naming n) w sections.old → Puts names n i w sections.old result sections.new }
-{
-    let start = NAMES * w.bytes + w.names;
-    w.names += put(&mut sections[start..]);
-    w
-}
-
-// Whether names are wanted is for the caller to ask (flag bit 0).
-pub fn label(sections: &mut [u32], w: Writer, target: u64, bytes: &[u8]) -> Writer
-    requires { (length bytes.now < 256) × RoomFor (naming (length bytes.now + 3)) w sections.old }
-    ensures { Puts names (length bytes.now + 3) (name target bytes.now) w sections.old result sections.new }
-{
-    put_name(
-        sections,
-        w,
-        |left| instructions::name(left, low_word(target), bytes),
-    )
-}
-
-// The same of a member, which has no id of its own: the struct's, and its place there.
-pub fn label_member(
-    sections: &mut [u32],
-    w: Writer,
-    target: u64,
-    member: u32,
-    bytes: &[u8],
-) -> Writer
-    requires { (length bytes.now < 256) × RoomFor (naming (length bytes.now + 4)) w sections.old }
-    ensures { Puts names (length bytes.now + 4) (member_name target member bytes.now) w sections.old result sections.new }
-{
-    put_name(
-        sections,
-        w,
-        |left| instructions::member_name(left, low_word(target), member, bytes),
-    )
-}
-
-fn put_word(sections: &mut [u32], p: usize, x: u32)
-    requires { p < length sections.old }
-    ensures { sections.new ≡ splice sections.old p (x ∷ []) }
-{
-    sections[p] = x;
-}
-
-// The n parts that stand behind those in use, lent.
-fn staged_parts(tables: &[u64], w: Writer, n: usize) -> &[u64]
-    requires { RoomIn (staging n) w tables.now }
-    ensures { (result.now ≡ part tables.now (parts_at w + w.parts) n) × (length result.now ≡ n) }
-{
-    let start = PARTS * w.records + w.parts;
-    &tables[start..start + n]
-}
-
-// Declares the composite of the n parts that stand behind those in use.
-pub fn declare_composite(
-    tables: &[u64],
-    sections: &mut [u32],
-    w: Writer,
-    ty: u64,
-    id: u64,
-    n: usize,
-) -> Writer
-    requires { (n < 65000) × RoomIn (staging n) w tables.now × RoomFor (declaring (n + 3)) w sections.old }
-    ensures { Puts declarations (n + 3) (constant_composite ty id (part tables.now (parts_at w + w.parts) n)) w sections.old result sections.new }
-{
-    constant_composite(sections, w, ty, id, staged_parts(tables, w, n))
-}
-
-// Declares the function type of the n ids that stand there, the return type's first.
-pub fn declare_function(
-    tables: &[u64],
-    sections: &mut [u32],
-    w: Writer,
-    id: u64,
-    n: usize,
-) -> Writer
-    requires { (n < 65000) × RoomIn (staging n) w tables.now × RoomFor (declaring (n + 2)) w sections.old }
-    ensures { Puts declarations (n + 2) (type_function id (part tables.now (parts_at w + w.parts) n)) w sections.old result sections.new }
-{
-    type_function(sections, w, id, staged_parts(tables, w, n))
-}
-
-// ---- Block, whose ids are kept: it goes on an id once
-
-// Whether an id carries Block.
-fn is_blocked(tables: &[u64], w: Writer, id: u64) -> bool
-    requires { RoomIn no_cost w tables.now }
-    ensures { FindsBlock id w tables.now result }
-{
-    let start = BLOCKED * w.records;
-    tables[start..start + w.blocked].contains(&id)
-}
-
-// Puts Block on an id that has none yet, which is for the caller to know.
-pub fn put_block(tables: &mut [u64], sections: &mut [u32], mut w: Writer, id: u64) -> Writer
-    requires { Room a_block w tables.old sections.old }
-    ensures { Kept a_block (annotate (block id)) w tables.old sections.old result tables.new sections.new }
-{
-    let start = ANNOTATIONS * w.bytes + w.annotations;
-    let t = low_word(id);
-    let n = instructions::decorate(&mut sections[start..], t, DECORATION_BLOCK, &[]);
-    let p = BLOCKED * w.records + w.blocked;
-    tables[p] = id;
-    w.annotations += n;
-    w.blocked += 1;
-    w
-}
-
-// The same of any id: where Block is, it stays, and is not written again.
-pub fn block_once(tables: &mut [u64], sections: &mut [u32], w: Writer, id: u64) -> Writer
-    requires { Room a_block w tables.old sections.old }
-    ensures { Kept a_block (block_once id) w tables.old sections.old result tables.new sections.new }
-{
-    if is_blocked(tables, w, id) {
-        return w;
-    }
-    put_block(tables, sections, w, id)
-}
-
-// ---- an instruction word by word
-
-// A word of an instruction that is not whole yet, behind the declarations in use.
-pub fn put_pending(sections: &mut [u32], w: Writer, k: usize, x: u32)
-    requires { RoomFor (declaring (k + 1)) w sections.old }
-    ensures { Pending k (x ∷ []) w sections.old sections.new }
-{
-    put_word(sections, DECLARATIONS * w.bytes + w.declarations + k, x);
-}
-
-// The n words pending are an instruction.
-pub fn commit(mut w: Writer, n: usize) -> Writer
-    requires { w.declarations + n < 9223372036854775808 }
-    ensures { Committed n w result }
-{
-    w.declarations += n;
-    w
-}
-
-// ---- capabilities
-
-// Lists a capability, if there is one, behind n others at its first use. What comes back is how many are listed then.
-pub fn listed<C: Word>(sections: &mut [u32], n: usize, capability: Option<C>) -> usize
-    requires { n < length sections.old }
-    ensures { CountListed (one_or_none (option_map C.as_word capability)) n sections.old result sections.new }
-{
-    let Some(capability) = capability else {
-        return n;
-    };
-    let number = capability.word();
-    if sections[..n].contains(&number) {
-        return n;
-    }
-    put_word(sections, n, number);
-    n + 1
 }

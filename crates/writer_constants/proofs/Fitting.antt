@@ -1,58 +1,75 @@
--- Test 13 of constants: parts of one type, parts of a struct's members, and the places that a type gives. The two loops are
--- proved by what is left: a part that fits leaves the same test of the rest, one that does not decides it.
-use Prim.Native.Nat.{ℕ, zero, suc, ◌+◌, ◌*◌, ◌≤◌, ◌<◌}
-use mathlib.Core.Path.{◌≡◌, refl, sym, ap, ◌∙◌, subst}
-use mathlib.Core.Bool.{Bool, true, false, ◌&&◌, not}
+-- Test 13 of constants: parts of one type, and parts of a struct's members. Both loops go by what is left: a part that fits leaves the
+-- same test of the rest, one that does not decides it.
+use Prim.Native.Nat.{ℕ, zero, suc, ◌+◌, ◌*◌, ◌-◌, ◌<◌}
+use mathlib.Core.Path.{◌≡◌, refl, sym, ap, ◌∙◌}
+use mathlib.Core.Bool.{Bool, true, false, ◌&&◌}
 use mathlib.Core.List.{List, [], ◌∷◌}
-use Rattle.std.specs.Prelude.{Option, Some, None}
 use native.Mathlib.Omega.{arith}
 use lib.Dec.{eqb}
 use lib.ListN.{length}
-use borrow.Author.Tests.{eq-eqb, ne_eqb, lt-ltb, le-ltb}
+use borrow.Author.Tests.{eq-eqb, ne_eqb}
 use Rattle.definition.specs.Choice.{or_else}
-use Rattle.definition.specs.Bytes.{u8_at, u16_at, u32_at, name_end}
-use Rattle.definition.specs.Sheet.{Fields, Member, TypeInner, type_fields, u16s_at, members_at}
-use Rattle.definition.specs.Tests.{member_types, present}
-use Rattle.definition.specs.Shapes.{Kind, Key, kind_of, scalar, vector, entry, shape}
+use Rattle.definition.specs.Bytes.{u16_at}
+use Rattle.definition.specs.Sheet.{Member, u16s_at}
+use Rattle.definition.specs.Tests.{member_types}
+use Rattle.definition.specs.Shapes.{entry}
 use Rattle.definition.specs.State.{State, id_of}
 use Rattle.definition.specs.Rules.{value_at}
-use Rattle.definition.specs.Unfit.{PartPlaces, each, members, nowhere, part_places_of, of_type, members_fit}
-use Rattle.definition.proofs.Truth.{pick_for}
+use Rattle.definition.specs.Unfit.{members, of_type, members_fit}
 use Rattle.writer.specs.declared.Writer.{Writer}
 use Rattle.writer.specs.declared.WrittenConstant.{WrittenConstant}
-use Rattle.writer.specs.Held.{kind_code, Held}
+use Rattle.writer.specs.Held.{Held}
 use Rattle.writer.specs.Steps.{ValueAt}
 use Rattle.writer_constants.specs.Entered.{TypeId}
 use Rattle.writer_constants.specs.Fitting.{all_of, TestsEachPart, TestsParts}
-use Rattle.fields.proofs.Numbers.{u16s_length}
+
+-- of whatever state is held, two tests say the same
+abbrev pub Alike : Writer → (State → Bool) → (State → Bool) → Type 0
+Alike w f g = (s : State) → Held w s → f s ≡ g s
+
+-- a part whose type was read, and the id that it has to be
+module _ {w : Writer} (test next : State → Bool) (want : State → ℕ) {c : ℕ} (left : Alike w test (λ s. eqb (value_at s c).type (want s) && next s))
+    {v : WrittenConstant} (read : ValueAt c w v) {id : ℕ} (is : (s : State) → Held w s → id ≡ want s) where
+  passes : v.ty ≡ id → Alike w test next
+  passes e s h = left s h ∙ rw (eq-eqb _ _ (sym (read.held s h).type ∙ e ∙ is s h))
+
+  fails : (v.ty ≡ id → ⊥) → Alike w (λ s. false) test
+  fails n s h = sym (left s h ∙ rw (ne_eqb _ _ (λ e. n ((read.held s h).type ∙ e ∙ sym (is s h)))))
 
 -- ---- parts of one type
 
 module _ (s : State) (id : ℕ) (b : List ℕ) (p : ℕ) where
-  turn : (k m : ℕ) → k ≡ suc m → all_of s id (u16s_at b p k) ≡ (eqb (value_at s (u16_at b p)).type id && all_of s id (u16s_at b (p + 2) m))
+  same_turn : (k m : ℕ) → k ≡ suc m → all_of s id (u16s_at b p k) ≡ (eqb (value_at s (u16_at b p)).type id && all_of s id (u16s_at b (p + 2) m))
   unfolding u16s_at
-  turn k m e = ap (λ (j : ℕ). all_of s id (u16s_at b p j)) e
-
-  pub same_type : (k m : ℕ) → k ≡ suc m → (value_at s (u16_at b p)).type ≡ id → all_of s id (u16s_at b p k) ≡ all_of s id (u16s_at b (p + 2) m)
-  same_type k m e h = turn k m e ∙ rw (eq-eqb _ _ h)
-
-  pub other_type : (k m : ℕ) → k ≡ suc m → ((value_at s (u16_at b p)).type ≡ id → ⊥) → all_of s id (u16s_at b p k) ≡ false
-  other_type k m e h = turn k m e ∙ rw (ne_eqb _ _ h)
+  same_turn k m e = ap (λ (j : ℕ). all_of s id (u16s_at b p j)) e
 
   pub none_left : (k : ℕ) → k ≡ 0 → all_of s id (u16s_at b p k) ≡ true
   unfolding u16s_at
   none_left k e = ap (λ (j : ℕ). all_of s id (u16s_at b p j)) e
 
--- what the program read is the state's
-pub type_read_lem : (c c' : ℕ) (w : Writer) (T : List ℕ) (v : WrittenConstant) → ValueAt c w T v → c ≡ c' → (S : List ℕ) (s : State) → Held w T S s → v.ty ≡ (value_at s c').type
-type_read_lem c c' w T v r e S s h = (r.held S s h).type ∙ ap (λ (j : ℕ). (value_at s j).type) e
+-- of n parts those from the i-th on are left
+pub record PartsLeft (w : Writer) (id : ℕ) (b : List ℕ) (n i : ℕ) : Type 0 where
+  pub left : Alike w (λ s. all_of s id (u16s_at b 4 n)) (λ s. all_of s id (u16s_at b (4 + 2 * i) (n - i)))
 
-module _ (w : Writer) (T b : List ℕ) (n size : ℕ) (k : Key) where
-  pub other_count : (n ≡ size → ⊥) → TestsParts (each size k) (u16s_at b 4 n) w T false
-  other_count h S s y = let l = u16s_length b 4 n in sym (rw (l, ne_eqb n size h))
+module _ {w : Writer} {id : ℕ} {b : List ℕ} {n i : ℕ} (g : PartsLeft w id b n i) (lt : i < n) where
+  abbrev all : State → Bool
+  all s = all_of s id (u16s_at b 4 n)
 
-  pub this_count : n ≡ size → (id : ℕ) → TypeId k w T id → (r : Bool) → TestsEachPart id (u16s_at b 4 n) w T r → TestsParts (each size k) (u16s_at b 4 n) w T r
-  this_count e id t r o S s y = let l = u16s_length b 4 n in let q = t S s y in o S s y ∙ ap (λ (j : ℕ). all_of s j (u16s_at b 4 n)) q ∙ sym (rw (l, eq-eqb n size e))
+  abbrev rest : State → Bool
+  rest s = all_of s id (u16s_at b (4 + 2 * (i + 1)) (n - (i + 1)))
+
+  part_turn : Alike w all (λ s. eqb (value_at s (u16_at b (4 + 2 * i))).type id && rest s)
+  part_turn s h =
+      let next : 4 + 2 * i + 2 ≡ 4 + 2 * (i + 1) = omega arith in
+      g.left s h ∙ same_turn s id b (4 + 2 * i) (n - i) (n - (i + 1)) (omega arith)
+      ∙ ap (λ (p : ℕ). eqb (value_at s (u16_at b (4 + 2 * i))).type id && all_of s id (u16s_at b p (n - (i + 1)))) next
+
+  module _ {v : WrittenConstant} (read : ValueAt (u16_at b (4 + 2 * i)) w v) where
+    pub same_part : v.ty ≡ id → PartsLeft w id b n (i + 1)
+    same_part e = record { left = passes all rest (λ s. id) part_turn read (λ s h. refl) e }
+
+    pub other_part : (v.ty ≡ id → ⊥) → TestsEachPart id (u16s_at b 4 n) w false
+    other_part = fails all rest (λ s. id) part_turn read (λ s h. refl)
 
 -- ---- parts of a struct's members
 
@@ -69,83 +86,37 @@ other_number s b (m ∷ ms) p (suc n) h = go (of_type s (entry m.type) (u16_at b
     go false e = refl
 
 -- of all the members, ms are left, the first of which is for part i
-pub record Matching (w : Writer) (T b : List ℕ) (n : ℕ) (all ms : List Member) (i : ℕ) : Type 0 where
+pub record Matching (w : Writer) (b : List ℕ) (n : ℕ) (all ms : List Member) (i : ℕ) : Type 0 where
   pub count : i + length ms ≡ n
-  pub same : (S : List ℕ) (s : State) → Held w T S s → members_fit s (member_types all) (u16s_at b 4 n) ≡ members_fit s (member_types ms) (u16s_at b (4 + 2 * i) (length ms))
+  pub left : Alike w (λ s. members_fit s (member_types all) (u16s_at b 4 n)) (λ s. members_fit s (member_types ms) (u16s_at b (4 + 2 * i) (length ms)))
 
-module _ (w : Writer) (T b : List ℕ) (n : ℕ) (all : List Member) where
-  pub unmatched : n ≡ length all → Matching w T b n all all 0
-  unmatched e = record { count = omega (arith, e); same = λ S s h. ap (λ j. members_fit s (member_types all) (u16s_at b 4 j)) e }
+pub unmatched : (w : Writer) (b : List ℕ) {n : ℕ} {all : List Member} → n ≡ length all → Matching w b n all all 0
+unmatched w b {all = all} e = record { count = omega (arith, e); left = λ s h. ap (λ j. members_fit s (member_types all) (u16s_at b 4 j)) e }
 
-  module _ (i : ℕ) (m : Member) (ms all' : List Member) (e : all' ≡ m ∷ ms) (g : Matching w T b n all all' i) where
-    abbrev place : ℕ
-    place = 4 + 2 * i
-
-    pub in_place : i < n
-    in_place = omega (arith, g.count, ap length e)
-
-    member_turn : (S : List ℕ) (s : State) → Held w T S s → members_fit s (member_types all) (u16s_at b 4 n) ≡ (of_type s (entry m.type) (u16_at b place) && members_fit s (member_types ms) (u16s_at b (place + 2) (length ms)))
-    unfolding member_types u16s_at members_fit
-    member_turn S s h = g.same S s h ∙ ap (λ (l : List Member). members_fit s (member_types l) (u16s_at b place (length l))) e
-
-    module _ (v : WrittenConstant) (c : ℕ) (read : ValueAt c w T v) (ec : c ≡ u16_at b place) (id : ℕ) (found : TypeId (entry m.type) w T id) where
-      pub matched : v.ty ≡ id → (k : ℕ) → k ≡ i + 1 → Matching w T b n all ms k
-      matched h k ek =
-          let p : place + 2 ≡ 4 + 2 * k = omega arith in
-          record {
-            count = omega (arith, g.count, ap length e);
-            same = λ S s held.
-                member_turn S s held ∙ rw (eq-eqb (value_at s (u16_at b place)).type (or_else 0 (id_of s (entry m.type))) (sym (type_read_lem c (u16_at b place) w T v read ec S s held) ∙ h ∙ found S s held))
-                (ap (λ (q : ℕ). members_fit s (member_types ms) (u16s_at b q (length ms))) p);
-          }
-
-      pub other_member : (v.ty ≡ id → ⊥) → TestsParts (members (member_types all)) (u16s_at b 4 n) w T false
-      other_member h S s held =
-          sym (member_turn S s held ∙ rw (ne_eqb (value_at s (u16_at b place)).type (or_else 0 (id_of s (entry m.type))) (λ z. h (type_read_lem c (u16_at b place) w T v read ec S s held ∙ z ∙ sym (found S s held)))))
-
-  pub all_matched : (i : ℕ) (ms : List Member) → ms ≡ [] → Matching w T b n all ms i → TestsParts (members (member_types all)) (u16s_at b 4 n) w T true
+module _ {w : Writer} {b : List ℕ} {n : ℕ} {all rest : List Member} {i : ℕ} (g : Matching w b n all rest i) where
+  pub all_matched : rest ≡ [] → TestsParts (members (member_types all)) (u16s_at b 4 n) w true
   unfolding member_types u16s_at members_fit
-  all_matched i ms e g S s h = sym (g.same S s h ∙ ap (λ (l : List Member). members_fit s (member_types l) (u16s_at b (4 + 2 * i) (length l))) e)
+  all_matched e s h = sym (g.left s h ∙ ap (λ (l : List Member). members_fit s (member_types l) (u16s_at b (4 + 2 * i) (length l))) e)
 
--- ---- the places that a type of tag t and body d gives, whose name ends at p
+  module _ {m : Member} {ms : List Member} (e : rest ≡ m ∷ ms) {v : WrittenConstant} (read : ValueAt (u16_at b (4 + 2 * i)) w v) {id : ℕ} (is : TypeId (entry m.type) w id) where
+    abbrev test : State → Bool
+    test s = members_fit s (member_types all) (u16s_at b 4 n)
 
-module _ (t : ℕ) (d : List ℕ) (p : ℕ) where
-  abbrev places : PartPlaces
-  places = part_places_of (type_fields t d p).value
+    abbrev next : State → Bool
+    next s = members_fit s (member_types ms) (u16s_at b (4 + 2 * i + 2) (length ms))
 
-  pub vector_places : t ≡ 17 → places ≡ each (u8_at d p) (shape (scalar (kind_of (u8_at d (p + 1)) (u8_at d (p + 2)))))
-  unfolding type_fields
-  vector_places h = rw h
+    member_turn : Alike w test (λ s. of_type s (entry m.type) (u16_at b (4 + 2 * i)) && next s)
+    unfolding member_types u16s_at members_fit
+    member_turn s h = g.left s h ∙ ap (λ (l : List Member). members_fit s (member_types l) (u16s_at b (4 + 2 * i) (length l))) e
 
-  pub matrix_places : t ≡ 18 → places ≡ each (u8_at d p) (shape (vector (u8_at d (p + 1)) (kind_of 2 (u8_at d (p + 2)))))
-  unfolding type_fields kind_of
-  matrix_places h = rw h
+    pub matched : v.ty ≡ id → {k : ℕ} → k ≡ i + 1 → Matching w b n all ms k
+    matched h {k = k} ek =
+        let p : 4 + 2 * i + 2 ≡ 4 + 2 * k = omega arith in
+        record {
+          count = omega (arith, g.count, ap length e);
+          left = λ s y. passes test next (λ s. or_else 0 (id_of s (entry m.type))) member_turn read is h s y
+              ∙ ap (λ (q : ℕ). members_fit s (member_types ms) (u16s_at b q (length ms))) p;
+        }
 
-  pub array_places : t ≡ 22 → 0 < u32_at d (p + 2) → places ≡ each (u32_at d (p + 2)) (entry (u16_at d p))
-  unfolding type_fields
-  array_places h n = rw (h, lt-ltb 0 (u32_at d (p + 2)) n)
-
-  pub dynamic_places : t ≡ 22 → u32_at d (p + 2) ≤ 0 → places ≡ nowhere
-  unfolding type_fields
-  dynamic_places h n = rw (h, le-ltb 0 (u32_at d (p + 2)) n)
-
-  pub struct_places : t ≡ 23 → places ≡ members (member_types (members_at d (p + 5) (u8_at d (p + 4))))
-  unfolding type_fields
-  struct_places h = rw h
-
-  pub no_places : (t ≡ 17 → ⊥) → (t ≡ 18 → ⊥) → (t ≡ 22 → ⊥) → (t ≡ 23 → ⊥) → places ≡ nowhere
-  unfolding type_fields
-  no_places h17 h18 h22 h23 =
-      let P : Fields TypeInner → Type 0 = λ f. part_places_of f.value ≡ nowhere in
-      rw (ne_eqb t 17 h17, ne_eqb t 18 h18, ne_eqb t 22 h22, ne_eqb t 23 h23)
-      (pick_for P (eqb t 16) _ _ refl (pick_for P (eqb t 19) _ _ refl (pick_for P (eqb t 20) _ _ refl (pick_for P (eqb t 21) _ _ refl (pick_for P (eqb t 24) _ _ refl
-      (pick_for P (eqb t 25) _ _ refl (pick_for P (eqb t 26) _ _ refl (pick_for P (eqb t 27) _ _ refl refl))))))))
-
-  pub fit_by : p ≡ name_end d 0 → (cs : List ℕ) (w : Writer) (T : List ℕ) (r : Bool) (y : PartPlaces) → places ≡ y → TestsParts y cs w T r → TestsParts (part_places_of (type_fields t d (name_end d 0)).value) cs w T r
-  fit_by ep cs w T r y e f = subst (λ (z : PartPlaces). TestsParts z cs w T r) (sym e ∙ ap (λ (n : ℕ). part_places_of (type_fields t d n).value) ep) f
-
--- ---- a Splat's value has a kind
-
-pub kind_there : (kind : ℕ) (o : Option Kind) → kind ≡ kind_code o → not (eqb kind 0) ≡ present o
-kind_there kind None e = rw (eq-eqb kind 0 e)
-kind_there kind (Some k) e = rw (ne_eqb kind 0 (λ z. omega arith))
+    pub other_member : (v.ty ≡ id → ⊥) → TestsParts (members (member_types all)) (u16s_at b 4 n) w false
+    other_member = fails test next (λ s. or_else 0 (id_of s (entry m.type))) member_turn read is

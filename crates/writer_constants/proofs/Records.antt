@@ -18,7 +18,7 @@ use Rattle.entries.specs.declared.constants.Expression as Read
 use Rattle.writer.specs.declared.Writer.{Writer}
 use Rattle.writer.specs.Cost.{record_cost}
 use Rattle.writer.specs.Held.{Room}
-use Rattle.finding.proofs.Prices.{AtMost}
+use Rattle.writer.proofs.Turns.{AtMost, grown_within, room_within}
 use Rattle.writer_constants.specs.Entered.{expression_cost, FewParts, ConstantWritten}
 use Rattle.writer_constants.specs.Tested.{fields_of, ConstantTested}
 use Rattle.fields.proofs.Numbers.{u16s_length}
@@ -55,12 +55,11 @@ module _ (n : ℕ) (r : Record) (t : ConstantTested n r) where
   pub few : FewParts (fields_of r).value
   few = cheap.1
 
-  pub roomy : (w : Writer) (T S : List ℕ) → Room (record_cost 0 (length r.body + 3)) w T S → Room (expression_cost (fields_of r).value) w T S
-  roomy w T S h = record { rows = omega (arith, cheap.0, h.rows); words = omega (arith, cheap.0, h.words) }
+  pub roomy : (w : Writer) → Room (record_cost 0 (length r.body + 3)) w → Room (expression_cost (fields_of r).value) w
+  roomy w h = room_within cheap.0 h
 
-  pub written : (ts : List TypeEntry) (w : Writer) (T S : List ℕ) (v : Writer) (T' S' : List ℕ) → ConstantWritten (expression_cost (fields_of r).value) ts (fields_of r).value w T S v T' S'
-      → ConstantWritten (record_cost 0 (length r.body + 3)) ts (fields_of r).value w T S v T' S'
-  written ts w T S v T' S' h = record { grown = omega (arith, cheap.0, h.grown); held = h.held }
+  pub written : (ts : List TypeEntry) (w v : Writer) → ConstantWritten (expression_cost (fields_of r).value) ts (fields_of r).value w v → ConstantWritten (record_cost 0 (length r.body + 3)) ts (fields_of r).value w v
+  written ts w v h = record { grown = grown_within cheap.0 h.grown; held = h.held }
 
   -- what was taken for the constant is the constant
   pub is_taken : (e : Read.Expression) → ConstantTaken r.tag r.body e → expression_of r.body e ≡ (fields_of r).value

@@ -1,13 +1,11 @@
 -- What entering a constant of the sheet promises, and what it costs.
-use Rattle.std.specs.Prelude.{ℕ, ◌+◌, ◌<◌, ◌≡◌, List, length}
-use Rattle.std.specs.Prelude.{Option}
+use Rattle.std.specs.Prelude.{ℕ, ◌+◌, ◌<◌, ◌≡◌, List, Option, length}
 use Rattle.definition.specs.Choice.{or_else}
 use Rattle.definition.specs.Shapes.{Kind, Key, bool, vector, entry, shape}
 use Rattle.definition.specs.State.{State, Got, id_of}
 use Rattle.definition.specs.Sheet.{TypeEntry, Expression, Value, Alias, ZeroValue, Compose, Splat}
 use Rattle.definition.specs.Rules.{got_value, enter_value, declare_constant}
 use Rattle.writer.specs.declared.Writer.{Writer}
-use Rattle.writer.specs.declared.Taken.{Taken}
 use Rattle.writer.specs.Cost.{Cost, an_id, a_value, a_composite, declaring, ◌⊕◌}
 use Rattle.writer.specs.Held.{kind_code, SmallKind, Held, Grown}
 use Rattle.writer.specs.Steps.{Gives}
@@ -38,14 +36,13 @@ FewParts (Splat n c) = Unit
 -- ---- promises
 
 -- the id of a type that is entered, else 0
-abbrev pub TypeId : Key → Writer → List ℕ → ℕ → Type 0
-TypeId k w T r = (S : List ℕ) (s : State) → Held w T S s → r ≡ or_else 0 (id_of s k)
+abbrev pub TypeId : Key → Writer → ℕ → Type 0
+TypeId k w r = (s : State) → Held w s → r ≡ or_else 0 (id_of s k)
 
 -- the constant that was found is entered, of a type with a key
-pub record EnteredFound (k : Key) (kind : ℕ) (g : Taken) (T : List ℕ) (v : Writer) (T' : List ℕ) : Type 0 where
-  pub grown : Grown a_value g.writer v
-  pub held : (o : Option Kind) → kind ≡ kind_code o → SmallKind o → (S : List ℕ) (x : Got) → Gives x g.id g.writer T S
-      → Held v T' S (enter_value (got_value k o x).value x.state)
+pub record EnteredFound (k : Key) (kind id : ℕ) (w v : Writer) : Type 0 where
+  pub grown : Grown a_value w v
+  pub held : (o : Option Kind) → kind ≡ kind_code o → SmallKind o → (x : Got) → Gives x id w → Held v (enter_value (got_value k o x).value x.state)
 
 -- the key of a Splat's type, from the code of its value's kind
 pub record SplatType (size kind : ℕ) (k : Key) : Type 0 where
@@ -53,6 +50,6 @@ pub record SplatType (size kind : ℕ) (k : Key) : Type 0 where
   pub is : (o : Option Kind) → kind ≡ kind_code o → SmallKind o → k ≡ shape (vector size (or_else bool o))
 
 -- the constant is declared and entered, at a cost
-pub record ConstantWritten (c : Cost) (ts : List TypeEntry) (e : Expression) (w : Writer) (T S : List ℕ) (v : Writer) (T' S' : List ℕ) : Type 0 where
+pub record ConstantWritten (c : Cost) (ts : List TypeEntry) (e : Expression) (w v : Writer) : Type 0 where
   pub grown : Grown c w v
-  pub held : (s : State) → Held w T S s → Held v T' S' (declare_constant ts e s)
+  pub held : (s : State) → Held w s → Held v (declare_constant ts e s)

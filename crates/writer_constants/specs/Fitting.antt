@@ -13,13 +13,13 @@ abbrev pub all_of : State → ℕ → List ℕ → Bool
 all_of s id cs = every (λ (c : ℕ). eqb (value_at s c).type id) cs
 
 -- the same, as the program answers it
-abbrev pub TestsEachPart : ℕ → List ℕ → Writer → List ℕ → Bool → Type 0
-TestsEachPart id cs w T r = (S : List ℕ) (s : State) → Held w T S s → r ≡ all_of s id cs
+abbrev pub TestsEachPart : ℕ → List ℕ → Writer → Bool → Type 0
+TestsEachPart id cs w r = (s : State) → Held w s → r ≡ all_of s id cs
 
 -- constants fit the places of a composite's parts
-abbrev pub TestsParts : PartPlaces → List ℕ → Writer → List ℕ → Bool → Type 0
-TestsParts ps cs w T r = (S : List ℕ) (s : State) → Held w T S s → r ≡ parts_fit s ps cs
+abbrev pub TestsParts : PartPlaces → List ℕ → Writer → Bool → Type 0
+TestsParts ps cs w r = (s : State) → Held w s → r ≡ parts_fit s ps cs
 
 -- test 13 of a constant
-abbrev pub TestsConstant : List TypeEntry → Expression → Writer → List ℕ → Bool → Type 0
-TestsConstant ts e w T r = (S : List ℕ) (s : State) → Held w T S s → r ≡ constant_fits ts s e
+abbrev pub TestsConstant : List TypeEntry → Expression → Writer → Bool → Type 0
+TestsConstant ts e w r = (s : State) → Held w s → r ≡ constant_fits ts s e

@@ -1,5 +1,5 @@
 // Test 13 of a constant: whether it fits the constants and the types before it.
-ghost use Rattle.std.specs.Prelude.{◌≡◌, true, ℕ, ◌<◌, ◌≤◌, length};
+ghost use Rattle.std.specs.Prelude.{◌≡◌, true, ℕ, length};
 ghost use Rattle.definition.specs.Bytes.{name_end};
 ghost use Rattle.definition.specs.Shapes.{kind_of};
 ghost use Rattle.definition.specs.Sheet.{u16s_at, type_fields};
@@ -9,7 +9,7 @@ ghost use Rattle.definition.specs.Unfit.{part_places_of, each, members};
 ghost use Rattle.kinds.specs.Numbers.{kind_number};
 ghost use Rattle.lookup.specs.Local.{key_of};
 ghost use Rattle.members.specs.Walk.{members_left};
-ghost use Rattle.records.specs.Places.{types_from};
+ghost use Rattle.records.specs.Places.{types_in};
 ghost use Rattle.entries.specs.Constants.{expression_of};
 ghost use Rattle.zeroable.specs.Memo.{Memo};
 ghost use Rattle.writer.specs.Cost.{no_cost};
@@ -17,13 +17,16 @@ ghost use Rattle.writer.specs.Held.{RoomIn};
 ghost use Rattle.writer_constants.specs.Fitting.{TestsEachPart, TestsParts, TestsConstant};
 
 use entries::constants::Expression;
+use fields::Named;
 use finding::type_id;
 use kinds::ScalarKind;
 use lookup::{LookupType, value_type};
 use members::Members;
+use records::Earlier;
 use writer::Writer;
 
 // The kind of a number; one that test 10 refuses is taken for a Bool's, as the definition takes it.
+#[tactic(auto, unfolding(definition::specs::Shapes::kind_of))]
 fn kind_for(k: u8) -> ScalarKind
     ensures { (w : ℕ) → kind_of (kind_number result) w ≡ kind_of k w }
 {
@@ -33,13 +36,14 @@ fn kind_for(k: u8) -> ScalarKind
     kinds::kind_of(k)
 }
 
-// Whether the n parts of a Compose, which stand in its body b, are of the type with this id.
-fn all_of_type(tables: &[u64], w: Writer, b: &[u8], n: usize, id: u64) -> bool
-    requires { (n < 65536) × RoomIn no_cost w tables.now }
-    ensures { TestsEachPart id (u16s_at b.now 4 n) w tables.now result }
+// Whether the n parts of a Compose, which stand in its body b, two bytes each, are of the type with this id.
+#[tactic(auto, using(crate::proofs::Fitting::none_left))]
+fn all_of_type(w: &Writer<'_, '_>, b: &[u8], n: u16, id: u64) -> bool
+    requires { RoomIn no_cost w.now }
+    ensures { TestsEachPart id (u16s_at b.now 4 n) w.now result }
 {
-    for i in 0..n {
-        let v = writer::value_at(tables, w, fields::u16_at(b, 4 + 2 * i) as usize);
+    for i in 0..n as usize {
+        let v = w.value_at(fields::u16_at(b, 4 + 2 * i) as usize);
         if v.ty != id {
             return false;
         }
@@ -48,28 +52,30 @@ fn all_of_type(tables: &[u64], w: Writer, b: &[u8], n: usize, id: u64) -> bool
 }
 
 // Whether they are so many, and each of this type. A size may be far more than the parts are, so the two are compared first.
-fn each_fits(tables: &[u64], w: Writer, b: &[u8], n: u16, size: u32, t: LookupType) -> bool
-    requires { RoomIn no_cost w tables.now }
-    ensures { TestsParts (each size (key_of t)) (u16s_at b.now 4 n) w tables.now result }
+#[tactic(auto, using(fields::proofs::Numbers::u16s_length))]
+fn each_fits(w: &Writer<'_, '_>, b: &[u8], n: u16, size: u32, t: LookupType) -> bool
+    requires { RoomIn no_cost w.now }
+    ensures { TestsParts (each size (key_of t)) (u16s_at b.now 4 n) w.now result }
 {
     if n as u32 != size {
         return false;
     }
-    let id = type_id(tables, w, t);
-    all_of_type(tables, w, b, n as usize, id)
+    let id = type_id(w, t);
+    all_of_type(w, b, n, id)
 }
 
 // Whether there is one for each of the members wanted, of the member's type.
-fn members_fit(tables: &[u64], w: Writer, b: &[u8], n: u16, wanted: Members<'_>) -> bool
-    requires { RoomIn no_cost w tables.now }
-    ensures { TestsParts (members (member_types (members_left wanted.entry))) (u16s_at b.now 4 n) w tables.now result }
+#[tactic(auto, using(crate::proofs::Fitting::other_number, crate::proofs::Fitting::unmatched))]
+fn members_fit(w: &Writer<'_, '_>, b: &[u8], n: u16, wanted: Members<'_>) -> bool
+    requires { RoomIn no_cost w.now }
+    ensures { TestsParts (members (member_types (members_left wanted.entry))) (u16s_at b.now 4 n) w.now result }
 {
     if n as usize != wanted.len() {
         return false;
     }
     for (i, m) in wanted.enumerate() {
-        let v = writer::value_at(tables, w, fields::u16_at(b, 4 + 2 * i) as usize);
-        let id = type_id(tables, w, LookupType::Handle(m.ty));
+        let v = w.value_at(fields::u16_at(b, 4 + 2 * i) as usize);
+        let id = type_id(w, LookupType::Handle(m.ty));
         if v.ty != id {
             return false;
         }
@@ -78,94 +84,64 @@ fn members_fit(tables: &[u64], w: Writer, b: &[u8], n: u16, wanted: Members<'_>)
 }
 
 // Whether they have the places that a type of a tag and of body d gives: a vector, a matrix, a sized Array or a struct.
-fn places_fit(tables: &[u64], w: Writer, tag: u8, d: &[u8], b: &[u8], n: u16) -> bool
-    requires { RoomIn no_cost w tables.now }
-    ensures { TestsParts (part_places_of (type_fields tag d.now (name_end d.now 0)).value) (u16s_at b.now 4 n) w tables.now result }
+#[tactic(auto, unfolding(definition::specs::Sheet::type_fields, definition::specs::Shapes::kind_of))]
+fn places_fit(w: &Writer<'_, '_>, tag: u8, d: &[u8], b: &[u8], n: u16) -> bool
+    requires { RoomIn no_cost w.now }
+    ensures { TestsParts (part_places_of (type_fields tag d.now (name_end d.now 0)).value) (u16s_at b.now 4 n) w.now result }
 {
-    let p = fields::name_end(d, 0);
+    let named = Named::new(d);
     match tag {
         17 => {
-            let kind = kind_for(fields::u8_at(d, p + 1));
-            let width = fields::u8_at(d, p + 2);
-            let l = value_type(None, kind, width);
-            each_fits(tables, w, b, n, fields::u8_at(d, p) as u32, l)
+            let kind = kind_for(named.u8_at(1));
+            let component = value_type(None, kind, named.u8_at(2));
+            each_fits(w, b, n, named.u8_at(0) as u32, component)
         }
         18 => {
-            let rows = fields::u8_at(d, p + 1);
-            let l = value_type(Some(rows), ScalarKind::Float, fields::u8_at(d, p + 2));
-            each_fits(tables, w, b, n, fields::u8_at(d, p) as u32, l)
+            let column = value_type(Some(named.u8_at(1)), ScalarKind::Float, named.u8_at(2));
+            each_fits(w, b, n, named.u8_at(0) as u32, column)
         }
         22 => {
-            let size = fields::u32_at(d, p + 2);
+            let size = named.u32_at(2);
             if size == 0 {
                 return false;
             }
-            each_fits(
-                tables,
-                w,
-                b,
-                n,
-                size,
-                LookupType::Handle(fields::u16_at(d, p)),
-            )
+            each_fits(w, b, n, size, LookupType::Handle(named.u16_at(0)))
         }
-        23 => members_fit(tables, w, b, n, Members::behind(d, p)),
+        23 => members_fit(w, b, n, Members::behind(d, named.end)),
         _ => false,
     }
 }
 
-// Whether a Compose of type t of the first n fits; its parts stand in its record's body b.
-fn compose_fits(
-    tables: &[u64],
-    w: Writer,
-    s: &[u8],
-    types: &[u32],
-    n: usize,
-    t: u16,
-    b: &[u8],
-    count: u16,
-) -> bool
-    requires { (n ≤ length types.now) × RoomIn no_cost w tables.now }
-    ensures { TestsParts (part_places_of (inner_at (types_from s.now types.now n) t)) (u16s_at b.now 4 count) w tables.now result }
+// Whether a Compose of type t of those read before fits; its parts stand in its record's body b.
+fn compose_fits(w: &Writer<'_, '_>, types: Earlier<'_>, t: u16, b: &[u8], count: u16) -> bool
+    requires { RoomIn no_cost w.now }
+    ensures { TestsParts (part_places_of (inner_at (types_in types.entry) t)) (u16s_at b.now 4 count) w.now result }
 {
-    let i = t as usize;
-    if n <= i {
-        return false;
+    match types.rest_at(t as usize) {
+        None => false,
+        Some(rest) => places_fit(w, records::tag_of(rest), records::body_of(rest), b, count),
     }
-    let rest = entries::entry_at(s, types, i);
-    places_fit(
-        tables,
-        w,
-        records::tag_of(rest),
-        records::body_of(rest),
-        b,
-        count,
-    )
 }
 
-// Whether the constant e fits, the parts of which stand in its record's body b; the types that it names are among the first n.
+// Whether the constant e fits, the parts of which stand in its record's body b; the types that it names are among those read before.
+#[tactic(auto, unfolding(definition::specs::Unfit::constant_fits))]
 pub fn expression_fits(
-    tables: &[u64],
-    w: Writer,
-    sheet: &[u8],
-    types: &[u32],
-    ntypes: usize,
+    w: &Writer<'_, '_>,
+    types: Earlier<'_>,
     memo: &mut [u8],
     body: &[u8],
     expr: Expression,
 ) -> bool
-    requires { (ntypes ≤ length types.now) × ((below ntypes (expression_types (expression_of body.now expr)) ≡ true) × (RoomIn no_cost w tables.now × Memo (types_from sheet.now types.now ntypes) memo.old)) }
-    ensures { TestsConstant (types_from sheet.now types.now ntypes) (expression_of body.now expr) w tables.now result × Memo (types_from sheet.now types.now ntypes) memo.new }
+    requires { (below (length types.places.now) (expression_types (expression_of body.now expr)) ≡ true) × (RoomIn no_cost w.now × Memo (types_in types) memo.old) }
+    ensures { TestsConstant (types_in types.entry) (expression_of body.now expr) w.now result × Memo (types_in types.entry) memo.new }
 {
     match expr {
         Expression::Literal(_) => true,
         Expression::Constant(_) => true,
-        Expression::ZeroValue(t) => zeroable::is_zeroable(sheet, types, ntypes, t as usize, memo),
-        Expression::Compose { ty, count } => compose_fits(
-            tables, w, sheet, types, ntypes, ty, body, count,
-        ),
+        Expression::ZeroValue(t) => zeroable::is_zeroable(types, t as usize, memo),
+        Expression::Compose { ty, count } => compose_fits(w, types, ty, body, count),
         Expression::Splat { size: _, value } => {
-            let v = writer::value_at(tables, w, value as usize);
+            let v = w.value_at(value as usize);
             v.kind != 0
         }
     }

@@ -1,5 +1,5 @@
 -- What declaring a function type promises, and what it costs.
-use Rattle.std.specs.Prelude.{ℕ, ◌+◌, List}
+use Rattle.std.specs.Prelude.{ℕ, ◌+◌}
 use Rattle.definition.specs.Sheet.{Function}
 use Rattle.definition.specs.State.{State}
 use Rattle.definition.specs.Rules.{declare_function}
@@ -24,6 +24,6 @@ function_cost n = void_cost ⊕ signature_cost (n + 1)
 -- ---- promises
 
 -- the function type is declared, at a cost
-pub record FunctionWritten (c : Cost) (f : Function) (w : Writer) (T S : List ℕ) (v : Writer) (T' S' : List ℕ) : Type 0 where
+pub record FunctionWritten (c : Cost) (f : Function) (w v : Writer) : Type 0 where
   pub grown : Grown c w v
-  pub held : (s : State) → Held w T S s → Held v T' S' (declare_function f s)
+  pub held : (s : State) → Held w s → Held v (declare_function f s)

@@ -9,18 +9,15 @@ ghost use Rattle.definition.specs.Instructions.{type_void, type_function};
 ghost use Rattle.definition.specs.Sheet.{init_of, u16s_at, function_fields};
 ghost use Rattle.definition.specs.State.{State, function, void, entry_ids};
 ghost use Rattle.definition.specs.Rules.{shared_type, result_of};
-ghost use Rattle.writer.specs.Rows.{part};
-ghost use Rattle.writer.specs.Regions.{parts_at};
 ghost use Rattle.writer.specs.Cost.{staging};
 ghost use Rattle.writer.specs.Held.{RoomIn, Room};
 ghost use Rattle.writer.specs.Staged.{Staged};
-ghost use Rattle.writer.specs.Steps.{FoundBy};
+ghost use Rattle.writer.specs.Steps.{FoundBy, staged};
 ghost use Rattle.writer_functions.specs.Written.{void_cost, signature_cost, function_cost, FunctionWritten};
 
 use finding::type_id;
 use lookup::LookupType;
-use writer::sections::type_void;
-use writer::{Taken, Writer};
+use writer::Writer;
 
 // Keys of the table of composites. The last digit of a type's key, to base 16, is 12 at most.
 const FUNCTION_KEY: u64 = 13;
@@ -31,79 +28,70 @@ const VOID_KEY: u64 = 14;
 const VOID: u16 = 65535;
 
 // The id of void, which is declared if it has none yet.
-fn get_void_type(tables: &mut [u64], sections: &mut [u32], w: Writer) -> Taken
-    requires { Room void_cost w tables.old sections.old }
-    ensures { FoundBy void_cost (shared_type void type_void) w tables.old sections.old result tables.new sections.new }
+fn get_void_type(w: &mut Writer<'_, '_>) -> u64
+    requires { Room void_cost w.old }
+    ensures { FoundBy void_cost (shared_type void type_void) w.old result w.new }
 {
-    match writer::find_composite(tables, w, VOID_KEY, 0) {
-        Some(id) => Taken { id, writer: w },
+    match w.find_composite(VOID_KEY, 0) {
+        Some(id) => id,
         None => {
-            let m = writer::take_id(w);
-            let id = m.id;
-            let v = type_void(sections, m.writer, id);
-            let u = writer::enter_composite(tables, v, VOID_KEY, 0, id);
-            Taken { id, writer: u }
+            let id = w.take_id();
+            w.type_void(id);
+            w.enter_composite(VOID_KEY, 0, id);
+            id
         }
     }
 }
 
 // The id of what a record returns: void, or a type's entry.
-fn return_type_id(tables: &mut [u64], sections: &mut [u32], w: Writer, ty: u16) -> Taken
-    requires { Room void_cost w tables.old sections.old }
-    ensures { FoundBy void_cost (result_of (init_of ty)) w tables.old sections.old result tables.new sections.new }
+fn return_type_id(w: &mut Writer<'_, '_>, ty: u16) -> u64
+    requires { Room void_cost w.old }
+    ensures { FoundBy void_cost (result_of (init_of ty)) w.old result w.new }
 {
     if ty == VOID {
-        return get_void_type(tables, sections, w);
+        return get_void_type(w);
     }
-    let id = type_id(tables, w, LookupType::Handle(ty));
-    Taken { id, writer: w }
+    type_id(w, LookupType::Handle(ty))
 }
 
 // Puts the ids that a function type is shared by behind the parts in use: the return type's, then those of the n parameters that
 // the record's body names.
-fn stage_signature(tables: &mut [u64], w: Writer, body: &[u8], res: u64, n: usize)
-    requires { (n < 65536) × RoomIn (staging (n + 1)) w tables.old }
-    ensures { Staged (n + 1) (λ (s : State). res ∷ entry_ids s (u16s_at body.now 3 n)) w tables.old tables.new }
+fn stage_signature(w: &mut Writer<'_, '_>, body: &[u8], res: u64, n: u8)
+    requires { RoomIn (staging (n + 1)) w.old }
+    ensures { Staged (n + 1) (λ (s : State). res ∷ entry_ids s (u16s_at body.now 3 n)) w.old w.new }
 {
-    writer::stage_part(tables, w, 0, res);
-    for i in 0..n {
+    w.stage_part(0, res);
+    for i in 0..n as usize {
         let ty = fields::u16_at(body, 3 + 2 * i);
-        let id = type_id(tables, w, LookupType::Handle(ty));
-        writer::stage_part(tables, w, i + 1, id);
+        let id = type_id(w, LookupType::Handle(ty));
+        w.stage_part(i + 1, id);
     }
 }
 
 // The id of the function type of the n ids that stand behind the parts in use, which is declared if it has none yet.
-fn get_function_type(tables: &mut [u64], sections: &mut [u32], w: Writer, n: usize) -> Taken
-    requires { (n < 65000) × Room (signature_cost n) w tables.old sections.old }
-    ensures { FoundBy (signature_cost n) (shared_type (function (part tables.old (parts_at w + w.parts) n)) (λ i. type_function i (part tables.old (parts_at w + w.parts) n))) w tables.old sections.old result tables.new sections.new }
+fn get_function_type(w: &mut Writer<'_, '_>, n: usize) -> u64
+    requires { (n < 65000) × Room (signature_cost n) w.old }
+    ensures { FoundBy (signature_cost n) (shared_type (function (staged n w.old)) (λ i. type_function i (staged n w.old))) w.old result w.new }
 {
-    match writer::find_composite(tables, w, FUNCTION_KEY, n) {
-        Some(id) => Taken { id, writer: w },
+    match w.find_composite(FUNCTION_KEY, n) {
+        Some(id) => id,
         None => {
-            let m = writer::take_id(w);
-            let id = m.id;
-            let v = writer::declare_function(tables, sections, m.writer, id, n);
-            let u = writer::enter_composite(tables, v, FUNCTION_KEY, n, id);
-            Taken { id, writer: u }
+            let id = w.take_id();
+            w.declare_function(id, n);
+            w.enter_composite(FUNCTION_KEY, n, id);
+            id
         }
     }
 }
 
 // Declares the function type of a record's body, and void before it where it is the first to return it. Nothing refers to the
 // record, so its id is not kept.
-pub fn write_function_type(
-    tables: &mut [u64],
-    sections: &mut [u32],
-    w: Writer,
-    body: &[u8],
-) -> Writer
-    requires { Room (function_cost (u8_at body.now 2)) w tables.old sections.old }
-    ensures { FunctionWritten (function_cost (u8_at body.now 2)) (function_fields body.now).value w tables.old sections.old result tables.new sections.new }
+pub fn write_function_type(w: &mut Writer<'_, '_>, body: &[u8])
+    requires { Room (function_cost (u8_at body.now 2)) w.old }
+    ensures { FunctionWritten (function_cost (u8_at body.now 2)) (function_fields body.now).value w.old w.new }
 {
-    let g = return_type_id(tables, sections, w, fields::u16_at(body, 0));
-    let n = fields::u8_at(body, 2) as usize;
-    stage_signature(tables, g.writer, body, g.id, n);
-    let f = get_function_type(tables, sections, g.writer, n + 1);
-    f.writer
+    let res = return_type_id(w, fields::u16_at(body, 0));
+    let n = fields::u8_at(body, 2);
+    stage_signature(w, body, res, n);
+    get_function_type(w, n as usize + 1);
 }

@@ -1,7 +1,5 @@
-pub mod Rooms
 pub mod Notes
-pub mod PointerForms
+pub mod Wrapper
 pub mod Inits
 pub mod Whole
-pub mod Chain
 pub mod Spaces

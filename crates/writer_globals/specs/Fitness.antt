@@ -8,6 +8,6 @@ use Rattle.writer.specs.declared.Writer.{Writer}
 use Rattle.writer.specs.Held.{Held}
 
 -- the answer is the definition's, whatever state is held, and the memo still holds of the types
-pub record TestsGlobal (ts : List TypeEntry) (g : Global) (w : Writer) (T : List ℕ) (r : Bool) (m : List ℕ) : Type 0 where
-  pub held : (S : List ℕ) (s : State) → Held w T S s → r ≡ global_fits ts s g
+pub record TestsGlobal (ts : List TypeEntry) (g : Global) (w : Writer) (r : Bool) (m : List ℕ) : Type 0 where
+  pub held : (s : State) → Held w s → r ≡ global_fits ts s g
   pub memo : Memo ts m

@@ -23,7 +23,6 @@ use Rattle.writer.specs.Steps.{Tail}
 use Rattle.finding.specs.Costs.{null_cost}
 use Rattle.writer_globals.specs.declared.pointers.PointerForm.{PointerForm}
 use Rattle.writer_globals.specs.declared.pointers.PointerForm.TheVariants.{Direct, Wrapped, Remapped}
-use Rattle.writer_globals.specs.declared.TakenInit.{TakenInit}
 use Rattle.writer_globals.specs.declared.Plan.{Plan}
 use Rattle.writer_globals.specs.Costs.{global_cost}
 
@@ -64,15 +63,15 @@ binding_decorated (Some r) id s = annotate (decorate id DecorationBinding (r.bin
 -- ---- the init
 
 -- the init, and the state in which it is declared, are held
-pub record InitGiven (g : GotInit) (r : TakenInit) (T S : List ℕ) : Type 0 where
-  pub named : r.init ≡ g.init
-  pub held : Held r.writer T S g.state
+pub record InitGiven (g : GotInit) (init : Option ℕ) (w : Writer) : Type 0 where
+  pub named : init ≡ g.init
+  pub held : Held w g.state
 
 -- an init is come by
-pub record Initialised (f : State → GotInit) (w : Writer) (T S : List ℕ) (r : TakenInit) (T' S' : List ℕ) : Type 0 where
-  pub grown : Grown null_cost w r.writer
-  pub tail : Tail w T r.writer T'
-  pub gives : (s : State) → Held w T S s → InitGiven (f s) r T' S'
+pub record Initialised (f : State → GotInit) (w : Writer) (init : Option ℕ) (v : Writer) : Type 0 where
+  pub grown : Grown null_cost w v
+  pub tail : Tail null_cost w v
+  pub gives : (s : State) → Held w s → InitGiven (f s) init v
 
 -- ---- the whole
 
@@ -84,13 +83,13 @@ pub record Planned (ts : List TypeEntry) (rs : List Remap) (zeroing : Bool) (b :
   pub null : p.null ≡ (eqb (space_number g.space) private_space || (eqb (space_number g.space) work_group_space && zeroing))
 
 -- a global is declared, given the types and the remaps, whatever else was read
-pub record GlobalKept (c : Cost) (o : Options) (ts : List TypeEntry) (rs : List Remap) (g : Global) (w : Writer) (T S : List ℕ) (v : Writer) (T' S' : List ℕ) : Type 0 where
+pub record GlobalKept (c : Cost) (o : Options) (ts : List TypeEntry) (rs : List Remap) (g : Global) (w v : Writer) : Type 0 where
   pub grown : Grown c w v
-  pub tail : Tail w T v T'
-  pub held : (d : Seen) → d.types ≡ ts → d.remaps ≡ rs → (s : State) → Held w T S s → Held v T' S' (declare_global o d g s)
+  pub tail : Tail c w v
+  pub held : (d : Seen) → d.types ≡ ts → d.remaps ≡ rs → (s : State) → Held w s → Held v (declare_global o d g s)
 
 -- a global is declared by its plan, whatever that was read of
-abbrev pub WrittenBy : Plan → Bool → List ℕ → GlobalVariable → Writer → List ℕ → List ℕ → Writer → List ℕ → List ℕ → Type 0
-WrittenBy p debug b g w T S v T' S' =
+abbrev pub WrittenBy : Plan → Bool → List ℕ → GlobalVariable → Writer → Writer → Type 0
+WrittenBy p debug b g w v =
     (ts : List TypeEntry) (rs : List Remap) (zeroing : Bool) → Planned ts rs zeroing b g p
-    → GlobalKept (global_cost (name_end b 0)) (record { debug = debug; zeroing = zeroing }) ts rs (global_of b g) w T S v T' S'
+    → GlobalKept (global_cost (name_end b 0)) (record { debug = debug; zeroing = zeroing }) ts rs (global_of b g) w v

@@ -1,11 +1,11 @@
 // Test 13 of a global: each test by itself, and the first that fails.
-ghost use Rattle.std.specs.Prelude.{◌≡◌, not, ◌||◌, List, [], ◌∷◌, ℕ, ◌<◌, ◌≤◌, eqb, length};
+ghost use Rattle.std.specs.Prelude.{◌≡◌, not, ◌||◌, List, [], ◌∷◌, ℕ, ◌<◌, eqb, length};
 ghost use Rattle.definition.specs.Choice.{among};
 ghost use Rattle.definition.specs.Sheet.{Global, private_space, work_group_space, uniform_space, storage_space, handle_space};
 ghost use Rattle.definition.specs.State.{State};
 ghost use Rattle.definition.specs.Unfit.{init_fits};
 ghost use Rattle.kinds.specs.Numbers.{space_number};
-ghost use Rattle.records.specs.Places.{types_from};
+ghost use Rattle.records.specs.Places.{types_in};
 ghost use Rattle.zeroable.specs.Memo.{Memo};
 ghost use Rattle.entries.specs.Globals.{global_of, bound_number};
 ghost use Rattle.writer.specs.Cost.{no_cost};
@@ -15,6 +15,7 @@ ghost use Rattle.writer_globals.specs.Fitness.{TestsGlobal};
 use entries::globals::{GlobalVariable, ResourceBinding};
 use kinds::AddressSpace;
 use lookup::LookupType;
+use records::Earlier;
 use writer::Writer;
 
 // Whether a space may hold bound globals.
@@ -42,9 +43,9 @@ fn is_zeroed(space: AddressSpace) -> bool
 }
 
 // An init is of a Private global, and of its type's id.
-fn init_fits(tables: &[u64], w: Writer, init: Option<u16>, space: AddressSpace, ty: u16) -> bool
-    requires { RoomIn no_cost w tables.now }
-    ensures { (S : List ℕ) (s : State) → Held w tables.now S s → (g : Global) → g.space ≡ space_number space → g.type ≡ ty → result ≡ init_fits s g init }
+fn init_fits(w: &Writer<'_, '_>, init: Option<u16>, space: AddressSpace, ty: u16) -> bool
+    requires { RoomIn no_cost w.now }
+    ensures { (s : State) → Held w.now s → (g : Global) → g.space ≡ space_number space → g.type ≡ ty → result ≡ init_fits s g init }
 {
     match init {
         None => true,
@@ -52,43 +53,38 @@ fn init_fits(tables: &[u64], w: Writer, init: Option<u16>, space: AddressSpace, 
             let AddressSpace::Private = space else {
                 return false;
             };
-            let x = writer::value_at(tables, w, c as usize);
-            let y = finding::type_id(tables, w, LookupType::Handle(ty));
-            x.ty == y
+            let x = w.value_at(c as usize);
+            x.ty == finding::type_id(w, LookupType::Handle(ty))
         }
     }
 }
 
-// Whether a global fits, given the first n types of the sheet.
+// Whether a global fits, given the types before it.
+#[tactic(auto, using(crate::proofs::Spaces::not_function), unfolding(definition::specs::Unfit::global_fits))]
 pub fn global_fits(
-    tables: &[u64],
-    w: Writer,
-    sheet: &[u8],
-    types: &[u32],
-    ntypes: usize,
+    w: &Writer<'_, '_>,
+    types: Earlier<'_>,
     memo: &mut [u8],
     global: GlobalVariable,
 ) -> bool
-    requires { (ntypes ≤ length types.now) × (global.ty < ntypes) × RoomIn no_cost w tables.now × Memo (types_from sheet.now types.now ntypes) memo.old }
-    ensures { (b : List ℕ) → TestsGlobal (types_from sheet.now types.now ntypes) (global_of b global) w tables.now result memo.new }
+    requires { (global.ty < length types.places.now) × RoomIn no_cost w.now × Memo (types_in types) memo.old }
+    ensures { (b : List ℕ) → TestsGlobal (types_in types.entry) (global_of b global) w.now result memo.new }
 {
     let space = global.space;
-    let binding = global.binding;
-    let init = global.init;
     if let AddressSpace::Function = space {
         return false;
     }
-    if type_facts::is_pointer(sheet, types, ntypes, global.ty as usize) {
+    if type_facts::is_pointer(types, global.ty as usize) {
         return false;
     }
-    if !bound_space_fits(binding, space) {
+    if !bound_space_fits(global.binding, space) {
         return false;
     }
-    if !init_fits(tables, w, init, space, global.ty) {
+    if !init_fits(w, global.init, space, global.ty) {
         return false;
     }
     if is_zeroed(space) {
-        return zeroable::is_zeroable(sheet, types, ntypes, global.ty as usize, memo);
+        return zeroable::is_zeroable(types, global.ty as usize, memo);
     }
     true
 }

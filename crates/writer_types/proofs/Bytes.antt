@@ -1,6 +1,6 @@
 -- The bytes of a type's record pay for the entry: what an entry costs, with its key and its name, is no more than what a
 -- record of that length may cost, tag by tag.
-use Prim.Native.Nat.{ℕ, zero, suc, ◌+◌, ◌≤◌}
+use Prim.Native.Nat.{ℕ, zero, suc, ◌+◌, ◌*◌, ◌≤◌}
 use mathlib.Core.Path.{◌≡◌}
 use mathlib.Core.Bool.{Bool, true, false}
 use mathlib.Core.List.{List}
@@ -13,12 +13,14 @@ use Rattle.definition.specs.Choice.{pick}
 use Rattle.definition.specs.Sheet.{Fields, TypeInner, type_fields, members_at, members_end}
 use Rattle.definition.specs.Shapes.{Kind, Shape, Count, float, one, many, matrix, value_pointer, image, kind_of, storage_class, count_of, image_of, shape}
 use Rattle.definition.proofs.Truth.{pick_for}
+use Rattle.entries.specs.declared.types.TypeInner as Program
 use Rattle.writer.specs.Cost.{Cost, a_type, naming, record_cost, ◌⊕◌}
 use Rattle.finding.specs.Costs.{cost_of}
-use Rattle.finding.proofs.Prices.{AtMost}
+use Rattle.writer.proofs.Turns.{AtMost}
 use Rattle.writer_types.specs.Costs.{name_length, weight, inner_cost}
+use Rattle.writer_types.specs.Inner.{inner_in}
+use Rattle.writer_types.specs.Tested.{TypeRead}
 use Rattle.members.proofs.Laws.{how_many}
-use Rattle.writer_types.proofs.Walking.{few}
 
 -- ---- names and members
 
@@ -35,6 +37,12 @@ unfolding members_at members_end weight
 member_bytes_lem b p zero = omega arith
 member_bytes_lem b p (suc k) = omega (arith, name_bytes_lem b (p + 6), member_bytes_lem b (name_end b (p + 6)) k)
 
+-- a member takes seven bytes at least
+few : (b : List ℕ) (p k : ℕ) → 7 * k ≤ weight (members_at b p k)
+unfolding members_at weight
+few b p zero = omega arith
+few b p (suc k) = omega (arith, few b (name_end b (p + 6)) k)
+
 -- ---- shapes whose cost is not seen at once
 
 pointer_cost_lem : (n : ℕ) (k : Kind) (c : ℕ) → AtMost (cost_of (shape (value_pointer (count_of n) k c))) (cost_of (shape (matrix 0 0 0)))
@@ -48,10 +56,10 @@ image_cost d a c x y =
 
 -- ---- an entry, its key and its name
 
-abbrev pub entry_cost : TypeInner → ℕ → Cost
+abbrev entry_cost : TypeInner → ℕ → Cost
 entry_cost i n = inner_cost i ⊕ a_type ⊕ naming (n + 3)
 
-pub type_bytes : (t : ℕ) (b : List ℕ) → (type_fields t b (name_end b 0)).end ≡ length b → AtMost (entry_cost (type_fields t b (name_end b 0)).value (name_length (name_at b 0))) (record_cost 1 (length b + 3))
+type_bytes : (t : ℕ) (b : List ℕ) → (type_fields t b (name_end b 0)).end ≡ length b → AtMost (entry_cost (type_fields t b (name_end b 0)).value (name_length (name_at b 0))) (record_cost 1 (length b + 3))
 unfolding type_fields
 type_bytes t b =
     let at = name_end b 0 in
@@ -68,3 +76,7 @@ type_bytes t b =
     (pick_for P (eqb t 22) _ _ (λ e. omega (arith, e, n)) (pick_for P (eqb t 23) _ _ (λ e. omega (arith, e, n, m, l, f)) (pick_for P (eqb t 24) _ _ (λ e. omega (arith, e, n, i))
     (pick_for P (eqb t 25) _ _ (λ e. omega (arith, e, n)) (pick_for P (eqb t 26) _ _ (λ e. omega (arith, e, n)) (pick_for P (eqb t 27) _ _ (λ e. omega (arith, e, n))
     (λ e. omega (arith, e, n)))))))))))))
+
+-- the same of a body that passed its tests
+pub enough : (b : List ℕ) (t : Program.TypeInner) → TypeRead b t → AtMost (entry_cost (inner_in b t) (name_length (name_at b 0))) (record_cost 1 (length b + 3))
+enough b t read = rw (read.taken read.tested.values) (type_bytes read.tag b read.tested.whole)

@@ -1,8 +1,6 @@
 pub mod Arrays
-pub mod Walking
-pub mod Putting
 pub mod Named
+pub mod Putting
 pub mod Passes
 pub mod Decorating
 pub mod Bytes
-pub mod Whole

@@ -1,20 +1,20 @@
 -- Two passes come to the definition's one: finding an entry changes nothing, and decorations and names enter no key, so the ids
 -- of the members' types are the same whenever they are asked for.
 use Prim.Native.Nat.{ℕ, suc}
-use mathlib.Core.Path.{◌≡◌, refl, sym, ap, ◌∙◌}
+use mathlib.Core.Path.{◌≡◌, refl, ap, ◌∙◌}
 use mathlib.Core.Bool.{Bool, true, false}
 use mathlib.Core.List.{List, [], ◌∷◌, map}
+use native.Mathlib.Omega.{arith}
 use Rattle.std.specs.Prelude.{Option, Some, None}
 use Rattle.definition.specs.Bytes.{Name}
 use Rattle.definition.specs.Choice.{or_else}
-use Rattle.definition.specs.Instructions.{Instruction, member_name, member_decorate, type_struct}
-use Rattle.definition.specs.Numbers.{DecorationOffset}
+use Rattle.definition.specs.Instructions.{Instruction}
 use Rattle.definition.specs.Sheet.{Member, TypeEntry}
 use Rattle.definition.specs.Shapes.{Key, same_key, entry}
-use Rattle.definition.specs.State.{State, Got, lookup, id_of, annotate, declare_alone}
-use Rattle.definition.specs.Rules.{GotAll, declare_members, declare_struct, decorate_member, stride_member, label_if, matrix_stride, element_of, inner_at, any_dynamic, annotate_if, block}
+use Rattle.definition.specs.State.{State, lookup}
+use Rattle.definition.specs.Rules.{declare_members, decorate_member, stride_member, label_if, annotate_if, block}
 use Rattle.finding.proofs.Entries.{entry_found}
-use Rattle.writer_types.specs.Members.{decorated, ids_in, struct_put}
+use Rattle.writer_types.specs.Members.{decorated, ids_in}
 
 -- ids hang on the table of types alone
 ids_alike : (ms : List Member) (s t : State) → s.types ≡ t.types → ids_in s ms ≡ ids_in t ms
@@ -39,29 +39,21 @@ annotate_types true i s = refl
 
 module _ (debug : Bool) (ts : List TypeEntry) (id : ℕ) where
   member_types_lem : (i : ℕ) (m : Member) (s : State) → (decorate_member debug ts id i m s).types ≡ s.types
-  member_types_lem i m s =
-      stride_types (matrix_stride (element_of ts (inner_at ts m.type))) id i _
-      ∙ label_types debug (member_name id i) m.name (annotate (member_decorate id i DecorationOffset (m.offset ∷ [])) s)
+  member_types_lem i m s = grind (arith, stride_types, label_types)
 
   decorated_types : (i : ℕ) (ms : List Member) (s : State) → (decorated debug ts id i ms s).types ≡ s.types
   unfolding decorated
   decorated_types i [] s = refl
   decorated_types i (m ∷ ms) s = decorated_types (suc i) ms (decorate_member debug ts id i m s) ∙ member_types_lem i m s
 
-  two_passes : (i : ℕ) (ms : List Member) (s : State) → declare_members debug ts id i ms s ≡ record { ids = ids_in s ms; state = decorated debug ts id i ms s }
+  pub two_passes : (i : ℕ) (ms : List Member) (s : State) → declare_members debug ts id i ms s ≡ record { ids = ids_in s ms; state = decorated debug ts id i ms s }
   unfolding declare_members decorated
   two_passes i [] s = refl
   two_passes i (m ∷ ms) s =
-      let t : State = decorate_member debug ts id i m s in
-      let x = or_else 0 (id_of t (entry m.type)) in
+      let t = decorate_member debug ts id i m s in
       let q = ids_alike (m ∷ ms) t s (member_types_lem i m s) in
-      ap (λ (g : Got). let r = declare_members debug ts id (suc i) ms g.state in record { ids = g.id ∷ r.ids; state = r.state }) (entry_found m.type t)
-      ∙ ap (λ (r : GotAll). record { ids = x ∷ r.ids; state = r.state }) (two_passes (suc i) ms t)
-      ∙ (λ j. record { ids = q j; state = decorated debug ts id (suc i) ms t })
+      rw (entry_found m.type t, two_passes (suc i) ms t, q) refl
 
-  pub as_defined : (ms : List Member) (s : State) → struct_put id ms (annotate_if (any_dynamic ts ms) (block id) (decorated debug ts id 0 ms s)) ≡ declare_struct debug ts id ms s
-  as_defined ms s =
-      let t = decorated debug ts id 0 ms s in
-      let u = annotate_if (any_dynamic ts ms) (block id) t in
-      ap (λ (l : List ℕ). declare_alone (type_struct id l) u) (ids_alike ms u s (annotate_types (any_dynamic ts ms) (block id) t ∙ decorated_types 0 ms s))
-      ∙ ap (λ (x : GotAll). declare_alone (type_struct id x.ids) (annotate_if (any_dynamic ts ms) (block id) x.state)) (sym (two_passes 0 ms s))
+  -- the types are what they were before Block and the decorations
+  pub ids_after : (d : Bool) (ms : List Member) (s : State) → ids_in (annotate_if d (block id) (decorated debug ts id 0 ms s)) ms ≡ ids_in s ms
+  ids_after d ms s = let t = decorated debug ts id 0 ms s in ids_alike ms (annotate_if d (block id) t) s (annotate_types d (block id) t ∙ decorated_types 0 ms s)

@@ -9,7 +9,7 @@ use Rattle.definition.specs.State.{State, declare_alone, id_of}
 use Rattle.definition.specs.Rules.{decorate_member}
 use Rattle.writer.specs.declared.Writer.{Writer}
 use Rattle.writer.specs.Cost.{declaring}
-use Rattle.writer.specs.Held.{Held, Grown}
+use Rattle.writer.specs.Steps.{Kept}
 
 -- ---- the first pass
 
@@ -28,7 +28,6 @@ ids_in s ms = map (λ m. or_else 0 (id_of s (entry m.type))) ms
 abbrev pub struct_put : ℕ → List Member → State → State
 struct_put id ms s = declare_alone (type_struct id (ids_in s ms)) s
 
--- the instruction of these members is put; the tables are only read
-pub record StructPut (id : ℕ) (ms : List Member) (w : Writer) (T S : List ℕ) (v : Writer) (S' : List ℕ) : Type 0 where
-  pub grown : Grown (declaring (length ms + 2)) w v
-  pub held : (s : State) → Held w T S s → Held v T S' (struct_put id ms s)
+-- the instruction of these members is put
+abbrev pub StructPut : ℕ → List Member → Writer → Writer → Type 0
+StructPut id ms w v = Kept (declaring (length ms + 2)) (struct_put id ms) w v

@@ -6,10 +6,10 @@ mod aggregates;
 mod names;
 mod structs;
 
-ghost use Rattle.std.specs.Prelude.{◌+◌, ◌≤◌, ◌<◌, length};
+ghost use Rattle.std.specs.Prelude.{◌+◌, ◌<◌, length};
 ghost use Rattle.definition.specs.Sheet.{TypeEntry};
 ghost use Rattle.definition.specs.Rules.{declare_aggregate, declare_type};
-ghost use Rattle.records.specs.Places.{types_from};
+ghost use Rattle.records.specs.Places.{types_in};
 ghost use Rattle.writer.specs.Cost.{record_cost};
 ghost use Rattle.writer.specs.Held.{Room};
 ghost use Rattle.writer.specs.Steps.{Kept, GotBy};
@@ -19,118 +19,80 @@ ghost use Rattle.writer_types.specs.Tested.{TypeRead, EntryOf};
 
 use entries::types::TypeInner;
 use lookup::LookupType;
-use writer::{Taken, Writer};
+use records::Earlier;
+use writer::Writer;
 
-// What an aggregate of body b is, under its id; the others are shapes.
+// What an aggregate of body b is, under its id.
 fn write_aggregate(
-    tables: &mut [u64],
-    sections: &mut [u32],
-    w: Writer,
-    s: &[u8],
-    types: &[u32],
-    n: usize,
+    w: &mut Writer<'_, '_>,
+    types: Earlier<'_>,
     b: &[u8],
     debug: bool,
     t: TypeInner,
     id: u64,
-) -> Writer
-    requires { (n ≤ length types.now) × Room (aggregate_cost (inner_in b.now t)) w tables.old sections.old }
-    ensures { Kept (aggregate_cost (inner_in b.now t)) (declare_aggregate debug (types_from s.now types.now n) (inner_in b.now t) id) w tables.old sections.old result tables.new sections.new }
+)
+    requires { Room (aggregate_cost (inner_in b.now t)) w.old }
+    ensures { Kept (aggregate_cost (inner_in b.now t)) (declare_aggregate debug (types_in types.entry) (inner_in b.now t) id) w.old w.new }
 {
     match t {
-        TypeInner::Scalar { kind: _, width: _ } => w,
-        TypeInner::Vector {
-            size: _,
-            kind: _,
-            width: _,
-        } => w,
-        TypeInner::Matrix {
-            columns: _,
-            rows: _,
-            width: _,
-        } => w,
-        TypeInner::Atomic { kind: _, width: _ } => w,
-        TypeInner::Pointer { base: _, space: _ } => w,
-        TypeInner::ValuePointer {
-            size: _,
-            kind: _,
-            width: _,
-            space: _,
-        } => w,
-        TypeInner::Array { base, size, stride } => aggregates::write_array(
-            tables, sections, w, id, base, size, stride,
-        ),
-        TypeInner::Struct { span: _, count } => structs::write_struct(
-            tables,
-            sections,
-            w,
-            s,
-            types,
-            n,
-            b,
-            debug,
-            id,
-            entries::members::first_member(b),
-            count,
-        ),
-        TypeInner::Image {
-            dim: _,
-            arrayed: _,
-            class: _,
-        } => w,
-        TypeInner::Sampler { comparison: _ } => w,
-        TypeInner::AccelerationStructure => w,
-        TypeInner::RayQuery => w,
-        TypeInner::BindingArray { base, size } => aggregates::write_elements(
-            tables, sections, w, id, base, size,
-        ),
+        TypeInner::Array { base, size, stride } => {
+            aggregates::write_array(w, id, base, size, stride)
+        }
+        TypeInner::BindingArray { base, size } => aggregates::write_elements(w, id, base, size),
+        TypeInner::Struct { count, .. } => {
+            let first = entries::members::first_member(b);
+            structs::write_struct(w, types, b, debug, id, first, count)
+        }
+        // The others are shapes, of which nothing is written here.
+        TypeInner::Scalar { .. }
+        | TypeInner::Atomic { .. }
+        | TypeInner::Vector { .. }
+        | TypeInner::Matrix { .. }
+        | TypeInner::Pointer { .. }
+        | TypeInner::ValuePointer { .. }
+        | TypeInner::Image { .. }
+        | TypeInner::Sampler { .. }
+        | TypeInner::AccelerationStructure
+        | TypeInner::RayQuery => {}
     }
 }
 
 // The id of a type of body b: a shape is found, an aggregate takes its id first.
 fn declare_inner(
-    tables: &mut [u64],
-    sections: &mut [u32],
-    w: Writer,
-    s: &[u8],
-    types: &[u32],
-    n: usize,
+    w: &mut Writer<'_, '_>,
+    types: Earlier<'_>,
     b: &[u8],
     debug: bool,
     t: TypeInner,
-) -> Taken
-    requires { (n ≤ length types.now) × Room (inner_cost (inner_in b.now t)) w tables.old sections.old }
-    ensures { GotBy (inner_cost (inner_in b.now t)) (inner_declared debug (types_from s.now types.now n) (inner_in b.now t)) w tables.old sections.old result tables.new sections.new }
+) -> u64
+    requires { Room (inner_cost (inner_in b.now t)) w.old }
+    ensures { GotBy (inner_cost (inner_in b.now t)) (inner_declared debug (types_in types.entry) (inner_in b.now t)) w.old result w.new }
 {
     match locals::make_local(t) {
-        Some(l) => finding::get_type_id(tables, sections, w, LookupType::Local(l)),
+        Some(l) => finding::get_type_id(w, LookupType::Local(l)),
         None => {
-            let k = writer::take_id(w);
-            let id = k.id;
-            let v = write_aggregate(tables, sections, k.writer, s, types, n, b, debug, t, id);
-            Taken { id, writer: v }
+            let id = w.take_id();
+            write_aggregate(w, types, b, debug, t, id);
+            id
         }
     }
 }
 
-// The type `ty` of a record that passed its tests, whose body is `body`; the n types before it stand at their places. Its own key
-// comes behind all that it is made of, so that nothing in it can name it.
+// The type `ty` of a record that passed its tests, whose body is `body`; `types` are those before it. Its own key comes behind
+// all that it is made of, so that nothing in it can name it.
+#[tactic(auto, using(crate::proofs::Bytes::enough, records::proofs::Entries::count), unfolding(definition::specs::Rules::declare_type))]
 pub fn write_type_declaration_arena(
-    tables: &mut [u64],
-    sections: &mut [u32],
-    w: Writer,
-    sheet: &[u8],
-    types: &[u32],
-    ntypes: usize,
+    w: &mut Writer<'_, '_>,
+    types: Earlier<'_>,
     body: &[u8],
     ty: TypeInner,
     debug: bool,
-) -> Writer
-    requires { (ntypes ≤ length types.now) × ((ntypes < 65536) × (TypeRead body.now ty × Room (record_cost 1 (length body.now + 3)) w tables.old sections.old)) }
-    ensures { (x : TypeEntry) → EntryOf body.now ty x → Kept (record_cost 1 (length body.now + 3)) (declare_type debug (types_from sheet.now types.now ntypes) x) w tables.old sections.old result tables.new sections.new }
+)
+    requires { (length types.places.now < 65536) × (TypeRead body.now ty × Room (record_cost 1 (length body.now + 3)) w.old) }
+    ensures { (x : TypeEntry) → EntryOf body.now ty x → Kept (record_cost 1 (length body.now + 3)) (declare_type debug (types_in types.entry) x) w.old w.new }
 {
-    let g = declare_inner(tables, sections, w, sheet, types, ntypes, body, debug, ty);
-    let k = lookup::key(LookupType::Handle(ntypes as u16));
-    let v = writer::enter_type(tables, g.writer, k, g.id);
-    names::name_type(sections, v, body, debug, g.id)
+    let id = declare_inner(w, types, body, debug, ty);
+    let k = lookup::key(LookupType::Handle(types.places.len() as u16));
+    w.enter_type(k, id);
+    names::name_type(w, body, debug, id);
 }

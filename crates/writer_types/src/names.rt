@@ -1,12 +1,13 @@
 // Names of types and of members: each is written under the debug flag, where there is one.
-ghost use Rattle.std.specs.Prelude.{◌≡◌, ◌&&◌, ◌+◌};
+ghost use Rattle.std.specs.Prelude.{◌≡◌, ◌&&◌, ◌+◌, ◌<◌, ◌^◌, [], length};
 ghost use Rattle.definition.specs.Bytes.{name_at};
+ghost use Rattle.definition.specs.Choice.{or_else};
 ghost use Rattle.definition.specs.Instructions.{name};
 ghost use Rattle.definition.specs.Tests.{present};
 ghost use Rattle.definition.specs.Rules.{label_if};
 ghost use Rattle.writer.specs.Cost.{naming};
 ghost use Rattle.writer.specs.Held.{RoomFor};
-ghost use Rattle.writer.specs.Steps.{Added};
+ghost use Rattle.writer.specs.Steps.{Kept};
 ghost use Rattle.writer_types.specs.Costs.{name_length};
 
 use entries::members::{has_name, name_part};
@@ -19,13 +20,22 @@ pub fn is_written(body: &[u8], debug: bool, p: usize) -> bool
     debug && has_name(body, p)
 }
 
-// The name of a type, which stands at the front of its body.
-pub fn name_type(sections: &mut [u32], w: Writer, body: &[u8], debug: bool, id: u64) -> Writer
-    requires { RoomFor (naming (name_length (name_at body.now 0) + 3)) w sections.old }
-    ensures { Added (naming (name_length (name_at body.now 0) + 3)) (label_if debug (name id) (name_at body.now 0)) w sections.old result sections.new }
+// The bytes of the name at i, whose length is a byte.
+#[tactic(auto, using(crate::proofs::Named::name_short))]
+pub fn short_name(body: &[u8], i: usize) -> &[u8]
+    requires { i < 2 ^ 63 }
+    ensures value { result.now ≡ or_else [] (name_at body.now i) }
+    ensures short { length result.now < 256 }
 {
-    if !is_written(body, debug, 0) {
-        return w;
+    name_part(body, i)
+}
+
+// The name of a type, which stands at the front of its body.
+pub fn name_type(w: &mut Writer<'_, '_>, body: &[u8], debug: bool, id: u64)
+    requires { RoomFor (naming (name_length (name_at body.now 0) + 3)) w.old }
+    ensures { Kept (naming (name_length (name_at body.now 0) + 3)) (label_if debug (name id) (name_at body.now 0)) w.old w.new }
+{
+    if is_written(body, debug, 0) {
+        w.label(id, short_name(body, 0));
     }
-    writer::label(sections, w, id, name_part(body, 0))
 }

@@ -1,6 +1,6 @@
 -- The definition decides the types in their order, each given the flags of those before it. Here one type by itself: it is
 -- zeroable as its fields say, where a part counts if it stands before it and is zeroable.
-use Prim.Native.Nat.{ℕ, zero, suc, ◌+◌, ◌≤◌, ◌<◌}
+use Prim.Native.Nat.{ℕ, zero, suc, ◌+◌, ◌<◌}
 use mathlib.Core.Path.{◌≡◌, refl, ap, sym, ◌∙◌, fun_ext}
 use mathlib.Core.Bool.{Bool, false, ◌&&◌}
 use mathlib.Core.List.{List, [], ◌∷◌, ◌++◌}
@@ -13,8 +13,9 @@ use lib.ListN.{length, get_or, length-append, get_or-append, get_or-eq_default}
 use lib.Seq.{get_or-append_seam}
 use Rattle.definition.specs.Sheet.{TypeEntry}
 use Rattle.definition.specs.Zeroable.{zeroable_over, zeroables, zeroable}
-use Rattle.records.specs.Places.{type_from, types_from}
-use Rattle.records.proofs.Types.{count, placed}
+use Rattle.records.specs.declared.Earlier.{Earlier}
+use Rattle.records.specs.Places.{type_from, types_in}
+use Rattle.records.proofs.Entries.{count, placed}
 use Rattle.zeroable.specs.Memo.{part_zeroable}
 
 -- the flags that are there stay
@@ -66,12 +67,12 @@ before ts us k lt = ap (λ (l : List Bool). get_or l k false) (split ts us []) �
 
 -- ---- a type among those at the places
 
-module _ (s types : List ℕ) (n i : ℕ) (room : n ≤ length types) (lt : i < n) where
+module _ (e : Earlier) (i : ℕ) (lt : i < length e.places.now) where
   abbrev ts : List TypeEntry
-  ts = types_from s types n
+  ts = types_in e
 
-  pub one : zeroable ts i ≡ zeroable_over (part_zeroable ts i) (type_from s (get_or types i 0)).inner
+  pub one : zeroable ts i ≡ zeroable_over (part_zeroable ts i) (type_from e.sheet.now (get_or e.places.now i 0)).inner
   unfolding zeroable
   one =
-      flag ts [] i i (type_from s 0) (rw (count s types n room) lt) (omega arith)
-      ∙ ap (λ (t : TypeEntry). zeroable_over (part_zeroable ts i) t.inner) (placed s types n i room lt (type_from s 0))
+      flag ts [] i i (type_from e.sheet.now 0) (rw (count e) lt) (omega arith)
+      ∙ ap (λ (t : TypeEntry). zeroable_over (part_zeroable ts i) t.inner) (placed e i lt (type_from e.sheet.now 0))

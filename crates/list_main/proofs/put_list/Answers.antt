@@ -5,11 +5,8 @@ use lib.ListN.{length, drop, length-drop}
 use lib.Seq.{take_all}
 use Rattle.printing.specs.Text.{Printed}
 use Rattle.list_main.specs.Answers.{following, list_text}
-use Rattle.list_main.proofs.Lines.{start, more, done}
+use Rattle.list_main.proofs.Lines.{more, done}
 use Rattle.list_main.proofs.put_list.Goals as goal
-
-pub loop-i-init : goal.loop-i-init
-loop-i-init c = start c.args.list.now c.args.text.now
 
 pub loop-i-preserved : goal.loop-i-preserved
 loop-i-preserved c =

@@ -1,13 +1,10 @@
-use mathlib.Core.Path.{◌≡◌, refl, ap, ◌∙◌}
+use mathlib.Core.Path.{◌≡◌, ap, ◌∙◌}
 use native.Mathlib.Omega.{arith}
 use lib.ListN.{length, length-set}
 use Rattle.std.proofs.Common.{rules, option_copied}
 use Rattle.list_main.specs.Answers.{at_most}
-use Rattle.list_main.proofs.Reading.{start, piece_more, piece_breaks, piece_short}
+use Rattle.list_main.proofs.Reading.{piece_more, piece_breaks, piece_short}
 use Rattle.list_main.proofs.read.Goals as goal
-
-pub loop-bytes-init : goal.loop-bytes-init
-loop-bytes-init g c = (start g.row.BYTES g.F.Form.words c.args.input.now c.args.words.now, refl)
 
 pub returns-in_err-words : goal.returns-in_err-words
 returns-in_err-words g c =

@@ -5,4 +5,4 @@ use Rattle.module_layout.proofs.put_module.Goals as goal
 pub returns : goal.returns
 returns c =
     let e = c.args in
-    module_put e.w e.sections.now e.bound e.out.now c.requires.0.room c.requires.1 _ _ _ _ _ _ _ _ c.put_front-first.ensures c.put_section.ensures c.put_section-2.ensures c.put_section-3.ensures
+    module_put e.u e.sections.now e.bound e.out.now c.requires.0.room c.requires.1 _ _ _ _ _ _ _ _ c.put_front-first.ensures c.put_section.ensures c.put_section-2.ensures c.put_section-3.ensures

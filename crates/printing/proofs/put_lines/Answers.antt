@@ -28,4 +28,4 @@ pub returns : goal.returns
 returns c =
     let l = c.loop-i in
     let a = c.args in
-    record { printed = all_lines a.text.now a.words.now l.text l.i a.n l.invariant.1 (omega (arith, l.invariant.0, c.loop-i-test.false)) (omega arith) (omega arith); value = refl }
+    record { printed = all_lines a.text.now a.words.now l.text l.i l.invariant.1 (omega (arith, l.invariant.0, c.loop-i-test.false)) (omega arith); value = refl }

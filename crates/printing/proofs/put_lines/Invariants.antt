@@ -7,4 +7,4 @@ use Rattle.printing.specs.Text.{lines_of}
 use Rattle.printing.proofs.put_lines.Given as goal
 
 abbrev pub invariant-loop-i : goal.invariant-loop-i
-invariant-loop-i l = (l.i ≤ l.n) × (l.text ≡ sets l.initial.text 0 (lines_of (take l.i l.words))) × (length l.text ≡ length l.initial.text)
+invariant-loop-i l = (l.i ≤ length l.words) × (l.text ≡ sets l.initial.text 0 (lines_of (take l.i l.words))) × (length l.text ≡ length l.initial.text)

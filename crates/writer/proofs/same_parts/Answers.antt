@@ -14,9 +14,6 @@ pub returns-then-tables-p : goal.returns-then-tables-p
 returns-then-tables-p c = let a = c.args in
     windows_differ a.tables.now a.p a.q a.n c.requires.0 c.requires.1 (a.n - 1) (a.p + (a.n - 1)) (a.q + (a.n - 1)) (omega arith) refl refl c.if-tables-p.true
 
-pub fours-init : goal.fours-init
-fours-init c = (omega arith, refl)
-
 pub returns-then-tables-p-2 : goal.returns-then-tables-p-2
 returns-then-tables-p-2 c = let a = c.args in let j = c.fours.j in
     windows_differ a.tables.now a.p a.q a.n c.requires.0 c.requires.1 j (a.p + j) (a.q + j) (omega arith) refl refl c.if-tables-p-2.true
@@ -43,9 +40,6 @@ fours-preserved c = let a = c.args in let j = c.fours.j in
           ∙ step (j + 2) (a.p + j + 2) (a.q + j + 2) (omega arith) (omega arith) (omega arith) (j + 3) (omega arith) c.if-tables-p-4.false
           ∙ step (j + 3) (a.p + j + 3) (a.q + j + 3) (omega arith) (omega arith) (omega arith) (j + 4) (omega arith) c.if-tables-p-5.false,
     )
-
-pub loop-j-init : goal.loop-j-init
-loop-j-init c = c.fours.invariant
 
 pub returns-then-tables-p-6 : goal.returns-then-tables-p-6
 returns-then-tables-p-6 c = let a = c.args in let j = c.loop-j.j in

@@ -2,4 +2,4 @@
 use Rattle.writer_globals.proofs.plan_of.Goals as goal
 
 pub returns : goal.returns
-returns c = λ b. record { access = c.access_of-access.ensures b; form = c.pointer_form_of-form.ensures b; base = c.binding_base-base.ensures; null = c.gets_null-null.ensures }
+returns c = λ b. record { access = c.access_of.ensures b; form = c.pointer_form_of.ensures b; base = c.binding_base.ensures; null = c.gets_null.ensures }

@@ -2,7 +2,7 @@
 -- The loop over the members keeps the memo right, and that the members which are left answer as all do.
 use Rattle.std.proofs.Common.{◌≡◌, ◌+◌, ◌*◌}
 use Rattle.members.specs.Walk.{members_left}
-use Rattle.records.specs.Places.{types_from}
+use Rattle.records.specs.Places.{types_in}
 use Rattle.zeroable.specs.Memo.{Memo, zero_members}
 use Rattle.zeroable.proofs.+zeroable_parts.Given as goal
 
@@ -20,5 +20,5 @@ decreases-zero_part l = 4 * l.i
 
 abbrev pub invariant-zero_members-loop-m : goal.invariant-zero_members-loop-m
 invariant-zero_members-loop-m l =
-    let ts = types_from l.s l.types l.n in
+    let ts = types_in l.types in
     Memo ts l.memo × (zero_members ts l.i (members_left l.fn.members) ≡ zero_members ts l.i (members_left l.m-iterator))

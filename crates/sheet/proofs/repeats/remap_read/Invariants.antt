@@ -3,11 +3,11 @@
 use mathlib.Core.Bool.{false}
 use mathlib.Core.List.{map}
 use mathlib.Core.Path.{◌≡◌}
-use lib.ListN.{take, drop}
+use lib.ListN.{drop}
 use Rattle.definition.specs.Tests.{remap_read}
 use Rattle.definition.specs.Sheet.{remap_fields}
-use Rattle.records.specs.Places.{remap_from}
+use Rattle.records.specs.Places.{remaps_in, remap_from}
 use Rattle.sheet.proofs.repeats.remap_read.Given as goal
 
 abbrev pub invariant-entries : goal.invariant-entries
-invariant-entries l = (l.read ≡ false) × (remap_read (remap_fields l.b).value (map (remap_from l.s) (take l.n l.remaps)) ≡ remap_read (remap_fields l.b).value (map (remap_from l.s) (drop l.place-index (take l.n l.remaps))))
+invariant-entries l = (l.read ≡ false) × (remap_read (remap_fields l.b).value (remaps_in l.remaps) ≡ remap_read (remap_fields l.b).value (map (remap_from l.remaps.sheet.now) (drop l.place-index l.remaps.places.now)))

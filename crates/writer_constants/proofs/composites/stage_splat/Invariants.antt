@@ -1,9 +1,7 @@
--- The loop's list is the list before it with i times the id put in, behind all that is in use.
-use mathlib.Core.Path.{◌≡◌}
-use lib.ListN.{length, replicate}
-use Rattle.spirv.specs.Sections.{splice}
-use Rattle.writer.proofs.Staged.{waiting}
+-- After i turns the id is put i times, and nothing else has changed.
+use Rattle.writer.specs.Staged.{Staged}
+use Rattle.writer_constants.proofs.Staging.{repeated}
 use Rattle.writer_constants.proofs.composites.stage_splat.Given as goal
 
 abbrev pub invariant-loop-i : goal.invariant-loop-i
-invariant-loop-i l = (length l.tables ≡ length l.initial.tables) × (l.tables ≡ splice l.initial.tables (waiting l.w) (replicate l.i l.id))
+invariant-loop-i l = Staged l.i (repeated l.id l.i) l.initial.w l.w

@@ -5,4 +5,4 @@ use Rattle.writer_constants.proofs.Fitting.{Matching}
 use Rattle.writer_constants.proofs.fitness.members_fit.Given as goal
 
 abbrev pub invariant-loop-i : goal.invariant-loop-i
-invariant-loop-i l = Matching l.w l.tables l.b l.n (members_left l.fn.wanted) (members_left (enumerate_source l.i-iterator)) (enumerate_count l.i-iterator)
+invariant-loop-i l = Matching l.w l.b l.n (members_left l.fn.wanted) (members_left (enumerate_source l.i-iterator)) (enumerate_count l.i-iterator)

@@ -6,4 +6,4 @@ use Rattle.writer_types.proofs.Putting.{Putting}
 use Rattle.writer_types.proofs.aggregates.put_struct.Given as goal
 
 abbrev pub invariant-loop-i : goal.invariant-loop-i
-invariant-loop-i l = Putting l.tables l.id (members_left l.fn.members) l.w l.initial.sections l.sections (members_left (enumerate_source l.i-iterator)) (enumerate_count l.i-iterator)
+invariant-loop-i l = Putting l.id (members_left l.fn.members) l.fn.w l.w (members_left (enumerate_source l.i-iterator)) (enumerate_count l.i-iterator)

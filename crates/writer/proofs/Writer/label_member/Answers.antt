@@ -1,0 +1,19 @@
+-- A name's bytes make words, so only the id is taken as a word.
+use Rattle.std.proofs.Common.{rules}
+use Prim.Native.Nat.{◌+◌}
+use native.Mathlib.Omega.{arith}
+use lib.ListN.{length}
+use Rattle.definition.specs.Instructions.{words, member_name}
+use Rattle.spirv.specs.Ids.{low}
+use Rattle.writer.specs.Regions.{names}
+use Rattle.writer.proofs.Spelt.{room_for}
+use Rattle.writer.proofs.Names.{is_member_name}
+use Rattle.writer.proofs.Writer.label_member.Goals as goal
+
+pub put_name-requires-clause-room : goal.put_name-requires-clause-room
+put_name-requires-clause-room c = let a = c.args in
+    (words (member_name (low a.target) a.member a.bytes.now), (λ s n t k. search rules), room_for names (is_member_name a.target a.member a.bytes.now (omega (arith, c.ranges)) c.requires.0 (λ i. omega (arith, c.type_inv.bytes i))) c.requires.1)
+
+pub returns : goal.returns
+returns c = let a = c.args in
+    c.put_name.ensures (member_name a.target a.member a.bytes.now) (length a.bytes.now + 4) (words (member_name (low a.target) a.member a.bytes.now)) (λ s n t k. search rules) (is_member_name a.target a.member a.bytes.now (omega (arith, c.ranges)) c.requires.0 (λ i. omega (arith, c.type_inv.bytes i))) c.requires.1
