@@ -135,8 +135,8 @@ fn answers_in(w: &mut Writer<'_, '_>, sheet: &[u8], words: &mut [u32], index: us
     Answers { answer, wrapping }
 }
 
-// The same over scratch of its own, of so many numbers and words, for a sheet of so many records and bytes. It is never inlined, so that the scratch of one class alone lies on
-// the stack.
+// The same over scratch of its own, of so many numbers and words, for a sheet of so many records and bytes. It is never inlined, so
+// that the scratch of one class alone lies on the stack.
 #[inline(never)]
 fn answers_over<const TABLES: usize, const SECTIONS: usize>(
     sheet: &[u8],

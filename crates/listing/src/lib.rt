@@ -48,7 +48,8 @@ fn list_instruction(out: &mut [u32], to: usize, op: u32, form: Form, body: &[u32
     next
 }
 
-// All instructions, in order, behind a header of five words (test 18); the first that is faulty decides. The list's place in the buffer begins behind the header's.
+// All instructions, in order, behind a header of five words (test 18); the first that is faulty decides. The list's place in the
+// buffer begins behind the header's.
 fn list_instructions(words: &[u32], out: &mut [u32]) -> Result<usize, Refusal>
     requires { 5 ≤ length words.now }
     ensures { Walked words.now out.old result out.new }
