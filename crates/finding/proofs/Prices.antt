@@ -75,3 +75,17 @@ module _ (l : Shape) (n : ℕ) where
       go ray_query i e = absurd (none_sized e)
       go (binding_array b m) i e = let h : entry b ≡ k = cc in rw (← h) (omega arith)
       go (binding_pointer b m s a) i e = absurd (none_sized e)
+
+-- what names no type names no length
+pub bare : (l : Shape) → inner l ≡ None → sized l ≡ None
+bare (scalar a) e = refl
+bare (vector n a) e = refl
+bare (matrix c r w) e = refl
+bare (pointer b c) e = refl
+bare (value_pointer n a c) e = refl
+bare (image a d p r m s f) e = refl
+bare sampler e = refl
+bare acceleration_structure e = refl
+bare ray_query e = refl
+bare (binding_array b n) e = let z : ◌≡◌ {A = ℕ} 0 1 = cc in absurd (omega arith)
+bare (binding_pointer b n s a) e = refl

@@ -39,7 +39,7 @@ declared_listed i a b cs e s =
 
 pub put_declared : (l : Shape) (id x y : ℕ) (a b : List ℕ) → a ++ b ≡ capabilities_of l → {w u m v : Writer}
     → Kept (listing_cost 1) (listing a) w u → Kept (listing_cost 1) (listing b) u m → Puts declarations (4 + longer l) (type_of l id x y) m v → ShapePut l id x y w v
-put_declared l id x y a b e p q d = kept_as (in_turn (in_turn p q) d) (omega arith) (λ s h. declared_listed (type_of l id x y) a b (capabilities_of l) e s)
+put_declared l id x y a b e p q d = kept_as (in_turn (in_turn p q) d.kept) (omega arith) (λ s h. declared_listed (type_of l id x y) a b (capabilities_of l) e s)
 
 -- ---- finding a shape
 
@@ -51,7 +51,7 @@ at_rank (suc n) k s = refl
 module _ (l : Shape) (small : Small (shape l)) {key : ℕ} (ek : key ≡ packed_key (shape l)) (w : Writer) (r : Option ℕ) (er : FindsType key w r) where
   looked : (o : Option ℕ) → r ≡ o → (s : State) → Held w s → find (shape l) s ≡ or_new_key o (find_below (rank_of l)) (shape l) s
   unfolding find
-  looked o e s h = at_rank (rank_of l) (shape l) s ∙ ap (λ (p : Option ℕ). or_new_key p (find_below (rank_of l)) (shape l) s) (sym (er (shape l) small ek s h) ∙ e)
+  looked o e s h = at_rank (rank_of l) (shape l) s ∙ ap (λ (p : Option ℕ). or_new_key p (find_below (rank_of l)) (shape l) s) (sym (er (shape l) small ek s (w.sections.now, h)) ∙ e)
 
   pub type_old : (id : ℕ) → r ≡ Some id → GotBy (cost_of (shape l)) (find (shape l)) w id w
   type_old id e = got_old (cost_of (shape l)) (find (shape l)) w id (looked (Some id) e)
@@ -114,7 +114,7 @@ gives_new f k write note e {id = id} {u = u} p q d entered s h =
     let a = q.gives (take_id s) (p.kept.held s h) in
     subst (λ (g : Got). Gives g id u)
     ((λ j. got (next j) (with_constants (note (next j) g.state.constants) (declare_alone (write (a.named j) (next j)) g.state))) ∙ sym (e s h))
-    (record { named = refl; held = entered _ (d.held g.state a.held) })
+    (record { named = refl; held = entered _ (d.kept.held g.state a.held) })
 
 -- ---- literals
 
@@ -124,7 +124,7 @@ module _ (L : Literal) {form bits : ℕ} (ef : form ≡ literal_form L) (eb : bi
 
   valued : (o : Option ℕ) → r ≡ o → (s : State) → Held w s → literal L s ≡ or_new_value o find k (literal_op L) (enter_literal L) s
   unfolding literal_with
-  valued o e s h = ap (λ (p : Option ℕ). or_new_value p find k (literal_op L) (enter_literal L) s) (sym (er L ef eb s h) ∙ e)
+  valued o e s h = ap (λ (p : Option ℕ). or_new_value p find k (literal_op L) (enter_literal L) s) (sym (er L ef eb s (w.sections.now, h)) ∙ e)
 
   pub literal_old : (id : ℕ) → r ≡ Some id → GotBy literal_cost (literal L) w id w
   literal_old id e = got_old literal_cost (literal L) w id (valued (Some id) e)
@@ -133,7 +133,7 @@ module _ (L : Literal) {form bits : ℕ} (ef : form ≡ literal_form L) (eb : bi
       → GotBy literal_cost (literal L) w id u
   literal_new e {id = id} {v = v} {u = u} p q d m =
       let entered : Kept a_literal (note_literal L id) v u = record { grown = m.grown; tail = m.tail; held = m.held L ef eb } in
-      let c = in_turn (in_turn (in_turn p.kept (state_got q)) d) entered in
+      let c = in_turn (in_turn (in_turn p.kept (state_got q)) d.kept) entered in
       record { grown = omega (arith, c.grown); tail = c.tail; gives = gives_new (literal L) k (literal_op L) (enter_literal L) (valued None e) p q d entered.held }
 
 -- ---- nulls
@@ -141,11 +141,11 @@ module _ (L : Literal) {form bits : ℕ} (ef : form ≡ literal_form L) (eb : bi
 module _ (t : ℕ) (w : Writer) (r : Option ℕ) (er : FindsNull t w r) where
   sought_null : (o : Option ℕ) → r ≡ o → (s : State) → Held w s → null_of t s ≡ or_new_null o t s
   unfolding null_of
-  sought_null o e s h = ap (λ (p : Option ℕ). or_new_null p t s) (sym (er s h) ∙ e)
+  sought_null o e s h = ap (λ (p : Option ℕ). or_new_null p t s) (sym (er s (w.sections.now, h)) ∙ e)
 
   pub null_old : (id : ℕ) → r ≡ Some id → GotBy null_cost (null_of t) w id w
   null_old id e = got_old null_cost (null_of t) w id (sought_null (Some id) e)
 
   pub null_new : r ≡ None → {id : ℕ} {n v u : Writer} → Took w id n → Puts declarations 3 (constant_null t id) n v → EnteredNull t id v u → GotBy null_cost (null_of t) w id u
-  null_new e {id = id} p d m = got_as (under_id id (in_turn (in_turn p.kept d) m.kept)) (omega arith)
+  null_new e {id = id} p d m = got_as (under_id id (in_turn (in_turn p.kept d.kept) m.kept)) (omega arith)
       (λ s h. let next = named_next p s h in (λ j. got (next j) (note_null t (next j) (declare_alone (constant_null t (next j)) (take_id s)))) ∙ sym (sought_null None e s h))

@@ -14,7 +14,7 @@ ghost use Rattle.lookup.specs.Local.{local_shape, key_of};
 ghost use Rattle.lookup.specs.Packed.{SmallShape};
 ghost use Rattle.writer.specs.Regions.{declarations};
 ghost use Rattle.writer.specs.Cost.{no_cost, declaring};
-ghost use Rattle.writer.specs.Held.{Held, RoomIn, RoomFor, Room};
+ghost use Rattle.writer.specs.Held.{HeldByTables, RoomIn, RoomFor, Room};
 ghost use Rattle.writer.specs.Steps.{GotBy, Kept, Puts};
 ghost use Rattle.finding.specs.Costs.{own_cost, declared_cost, cost_of, literal_cost, null_cost};
 ghost use Rattle.finding.specs.Found.{shape_declared, ShapePut};
@@ -87,7 +87,7 @@ fn write_type_declaration_local(w: &mut Writer<'_, '_>, l: LocalType, id: u64)
 // declared by being found.
 pub fn type_id(w: &Writer<'_, '_>, ty: LookupType) -> u64
     requires { RoomIn no_cost w.now }
-    ensures { (s : State) → Held w.now s → result ≡ or_else 0 (id_of s (key_of ty)) }
+    ensures { (s : State) → HeldByTables w.now s → result ≡ or_else 0 (id_of s (key_of ty)) }
 {
     w.find_type(lookup::key(ty)).unwrap_or(0)
 }

@@ -9,7 +9,7 @@ use native.Mathlib.Omega.{arith}
 use lib.Dec.{leb}
 use lib.ListN.{length, take, replicate, length-append, length-replicate}
 use lib.Seq.{take_all, length-take-le}
-use borrow.Author.Tests.{leb-true, leb-false, lt-leb}
+use borrow.Author.Tests.{leb-true, leb-false, lt-leb, le-leb}
 use Rattle.definition.specs.Choice.{pick}
 use Rattle.definition.specs.Instructions.{put, fits}
 use Rattle.definition.specs.Tests.{Judged, refused, fit}
@@ -18,11 +18,30 @@ use Rattle.list_main.specs.Answers.{text_words, binary_words, is_binary, words_m
 use Rattle.list_main.specs.Words.{OfCount}
 use Rattle.list_main.specs.Forms.{weaken, text_counted, binary_counted}
 
--- ---- an input that is longer than its words may be
+-- ---- an input by its length
 
 too_many : (o : Option (List ℕ)) → OfCount (λ (n : ℕ). words_most < n) o → at_most words_most o ≡ None
 too_many None h = refl
 too_many (Some ws) h = simp (lt-leb (length ws) words_most h)
+
+few : (o : Option (List ℕ)) → OfCount (λ (n : ℕ). n ≤ words_most) o → at_most words_most o ≡ o
+few None h = refl
+few (Some ws) h = simp (le-leb (length ws) words_most h)
+
+module _ (s : List ℕ) where
+  module _ (e : is_binary s ≡ true) where
+    pub long_binary : 262144 < length s → words_of s ≡ None
+    long_binary h = rw e (too_many (binary_words s) (weaken (λ (n : ℕ). length s ≡ 4 * n) (λ (n : ℕ). words_most < n) (λ n q. omega arith) (binary_words s) (binary_counted s)))
+
+    pub short_binary : length s ≤ 262144 → words_of s ≡ binary_words s
+    short_binary h = rw e (few (binary_words s) (weaken (λ (n : ℕ). length s ≡ 4 * n) (λ (n : ℕ). n ≤ words_most) (λ n q. omega arith) (binary_words s) (binary_counted s)))
+
+  module _ (e : is_binary s ≡ false) where
+    pub long_text : 589824 < length s → words_of s ≡ None
+    long_text h = rw e (too_many (text_words s) (weaken (λ (n : ℕ). length s ≡ 9 * n) (λ (n : ℕ). words_most < n) (λ n q. omega arith) (text_words s) (text_counted s)))
+
+    pub short_text : length s ≤ 589824 → words_of s ≡ text_words s
+    short_text h = rw e (few (text_words s) (weaken (λ (n : ℕ). length s ≡ 9 * n) (λ (n : ℕ). n ≤ words_most) (λ n q. omega arith) (text_words s) (text_counted s)))
 
 -- ---- the bytes that the program holds of an input decide the answer
 
@@ -30,10 +49,8 @@ long : (s : List ℕ) → 589824 < length s → words_of s ≡ None
 long s h = by (is_binary s) refl
   where
     by : (t : Bool) → is_binary s ≡ t → words_of s ≡ None
-    by true e =
-        rw e (too_many (binary_words s) (weaken (λ (n : ℕ). length s ≡ 4 * n) (λ (n : ℕ). words_most < n) (λ n q. omega arith) (binary_words s) (binary_counted s)))
-    by false e =
-        rw e (too_many (text_words s) (weaken (λ (n : ℕ). length s ≡ 9 * n) (λ (n : ℕ). words_most < n) (λ n q. omega arith) (text_words s) (text_counted s)))
+    by true e = long_binary s e (omega arith)
+    by false e = long_text s e h
 
 -- however long the input is
 abbrev pub held : List ℕ → List ℕ

@@ -138,6 +138,19 @@ before_nothing : (o : Option (List ℕ)) → before [] o ≡ o
 before_nothing None = refl
 before_nothing (Some zs) = refl
 
+-- more bytes than so many words have are no reading of so many
+pub over : (size : ℕ) (words : List ℕ → Option (List ℕ)) (counted : (bytes : List ℕ) → OfCount (λ (k : ℕ). length bytes ≡ size * k) (words bytes))
+    (s : List ℕ) (n : ℕ) → size * n < length s → None ≡ at_most n (words s)
+over size words counted s n h = by (words s) (counted s)
+  where
+    by : (o : Option (List ℕ)) → OfCount (λ (k : ℕ). length s ≡ size * k) o → None ≡ at_most n o
+    by None k = refl
+    by (Some ws) k = by_count (leb (length ws) n) refl
+      where
+        by_count : (t : Bool) → leb (length ws) n ≡ t → None ≡ pick t (Some ws) None
+        by_count false f = refl
+        by_count true f = let l : size * length ws ≤ size * n = mul-le-mul_left size (leb-true (length ws) n f) in absurd (omega arith)
+
 -- n words stand in the buffer, and the rest is to be read
 pub record PiecesRead (size : ℕ) (words : List ℕ → Option (List ℕ)) (s b : List ℕ) (n : ℕ) (rest : List ℕ) : Type 0 where
   pub room : n ≤ length b
@@ -183,18 +196,7 @@ module _ (size : ℕ) (words : List ℕ → Option (List ℕ)) (s b : List ℕ) 
   module _ (counted : (bytes : List ℕ) → OfCount (λ (k : ℕ). length bytes ≡ size * k) (words bytes)) where
     -- there is a word more than the buffer takes
     pub too_many : n ≡ length b → 0 < length rest → None ≡ at_most (length b) (words s)
-    too_many e h = by (words s) (counted s)
-      where
-        by : (o : Option (List ℕ)) → OfCount (λ (k : ℕ). length s ≡ size * k) o → None ≡ at_most (length b) o
-        by None k = refl
-        by (Some ws) k = by_count (leb (length ws) (length b)) refl
-          where
-            by_count : (t : Bool) → leb (length ws) (length b) ≡ t → None ≡ pick t (Some ws) None
-            by_count false f = refl
-            by_count true f =
-                let l : size * length ws ≤ size * length b = mul-le-mul_left size (leb-true (length ws) (length b) f) in
-                let m : size * n ≡ size * length b = ap (λ (j : ℕ). size * j) e in
-                absurd (omega (arith, g.place))
+    too_many e h = let m : size * n ≡ size * length b = ap (λ (j : ℕ). size * j) e in over size words counted s (length b) (omega (arith, g.place))
 
     -- fewer bytes are left than a word has
     pub piece_short : 0 < length rest → length rest < size → None ≡ words s

@@ -103,6 +103,10 @@ fn read<'a, const BYTES: usize, F: Form<BYTES>>(
     requires { (0 < BYTES) × (BYTES < 2 ^ 63) }
     ensures { option_copied result ≡ at_most (length words.old) (F.words input.now) }
 {
+    // More bytes than there is room for words are not read at all.
+    if BYTES.saturating_mul(words.len()) < input.len() {
+        return None;
+    }
     let mut n = 0;
     let mut rest = input;
     while let Some((bytes, later)) = rest.split_first_chunk::<BYTES>() {

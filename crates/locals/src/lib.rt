@@ -15,6 +15,11 @@ use lookup::{LocalImageType, LocalType};
 use spirv::helpers::map_storage_class;
 use spirv::images::{Dim, ImageFormat};
 
+// OpTypeImage's operand Sampled.
+const WITH_SAMPLER: u8 = 1;
+
+const WITHOUT_SAMPLER: u8 = 2;
+
 // Of each storage format, by its number in a sheet, the Specification's format and the kind of its scalars: what the Rust's `From`
 // for `ImageFormat` and `ScalarKind` say, in one table. Whole, it is proved to be the definition's list of formats. A `static` is read
 // where it lies.
@@ -91,36 +96,37 @@ fn vector_size(n: u8) -> Option<u8>
 fn image_type(dim: ImageDimension, arrayed: bool, class: ImageClass) -> LocalImageType
     ensures { image_shape result ≡ image_of (dimension_number dim) (flag_number arrayed) (class_number class) (class_first class) (class_second class) }
 {
-    let dim = Dim::from(dim);
+    let dim = Dim::from(dim).number() as u8;
+    let arrayed = arrayed as u8;
     match class {
         ImageClass::Sampled { kind, multi } => LocalImageType {
             kind,
             dim,
-            depth: false,
+            depth: 0,
             arrayed,
-            multi,
-            sampled: true,
-            format: ImageFormat::Unknown,
+            multi: multi as u8,
+            sampled: WITH_SAMPLER,
+            format: ImageFormat::Unknown.number() as u8,
         },
         ImageClass::Depth { multi } => LocalImageType {
             kind: ScalarKind::Float,
             dim,
-            depth: true,
+            depth: 1,
             arrayed,
-            multi,
-            sampled: true,
-            format: ImageFormat::Unknown,
+            multi: multi as u8,
+            sampled: WITH_SAMPLER,
+            format: ImageFormat::Unknown.number() as u8,
         },
         ImageClass::Storage { format, .. } => {
             let (format, kind) = storage_format(format);
             LocalImageType {
                 kind,
                 dim,
-                depth: false,
+                depth: 0,
                 arrayed,
-                multi: false,
-                sampled: false,
-                format,
+                multi: 0,
+                sampled: WITHOUT_SAMPLER,
+                format: format.number() as u8,
             }
         }
     }

@@ -1,10 +1,9 @@
 -- The program's shapes and what it says of them, as the definition's.
-use Rattle.std.specs.Prelude.{ℕ, Bool, true, false, List, [], ◌∷◌}
+use Rattle.std.specs.Prelude.{ℕ, List, [], ◌∷◌}
 use Rattle.std.specs.Prelude.{Option, Some, None, option_map}
 use Rattle.definition.specs.Shapes.{Kind, Count, Shape, Key, kind_of, one, many, scalar, vector, matrix, pointer, value_pointer, image, sampler, acceleration_structure, ray_query, binding_array, binding_pointer, entry, shape}
 use Rattle.definition.specs.Numbers.{CapabilityFloat16, CapabilityFloat64, CapabilityInt64, CapabilityInt16, CapabilityImageCubeArray, CapabilityInt8, CapabilitySampled1D, CapabilityImage1D, CapabilitySampledCubeArray, CapabilityStorageImageExtendedFormats, CapabilityRayQueryKHR}
-use Rattle.kinds.specs.Numbers.{flag_number, kind_number, space_number, space_access}
-use Rattle.spirv.specs.Images.{dim_number, format_number}
+use Rattle.kinds.specs.Numbers.{kind_number, space_number, space_access}
 use Rattle.lookup.specs.Packed.{bytes_key, Bytes}
 use Rattle.lookup.specs.declared.Capability.{Capability}
 use Rattle.lookup.specs.declared.Capability.TheVariants.{Float16, Float64, Int64, Int16, ImageCubeArray, Int8, Sampled1D, Image1D, SampledCubeArray, StorageImageExtendedFormats, RayQueryKHR}
@@ -24,19 +23,12 @@ value_of None k None = scalar k
 value_of (Some n) k None = vector n k
 value_of z k (Some c) = value_pointer (vector_count z) k c
 
--- OpTypeImage's operand Sampled: 1 with a sampler, 2 without
-abbrev pub sampled_number : Bool → ℕ
-sampled_number true = 1
-sampled_number false = 2
-
 -- a shape; an image's sampled type is a scalar of width 4
 abbrev pub local_shape : LocalType → Shape
 local_shape (Value z k w c) = value_of z (kind_of (kind_number k) w) c
 local_shape (Matrix c r w) = matrix c r w
 local_shape (Pointer b c) = pointer b c
-local_shape (Image i) =
-    image (kind_of (kind_number i.kind) 4) (dim_number i.dim) (flag_number i.depth) (flag_number i.arrayed) (flag_number i.multi)
-    (sampled_number i.sampled) (format_number i.format)
+local_shape (Image i) = image (kind_of (kind_number i.kind) 4) i.dim i.depth i.arrayed i.multi i.sampled i.format
 local_shape Sampler = sampler
 local_shape (PointerToBindingArray b n s) = binding_pointer b n (space_number s) (space_access s)
 local_shape (BindingArray b n) = binding_array b n

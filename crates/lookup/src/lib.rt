@@ -10,9 +10,8 @@ ghost use Rattle.definition.specs.Shapes.{kind_of, inner, sized, type_of, scalar
 ghost use Rattle.definition.specs.Finding.{kind_capabilities, format_capabilities, dim_capabilities, capabilities_of};
 ghost use Rattle.definition.specs.Instructions.{words};
 ghost use Rattle.spirv.specs.Put.{Put};
-ghost use Rattle.spirv.specs.Images.{dim_number, format_number};
-ghost use Rattle.kinds.specs.Numbers.{kind_number, flag_number};
-ghost use Rattle.lookup.specs.Local.{local_shape, value_of, key_of, value_key, SmallValue, capability_number, as_list, sampled_number};
+ghost use Rattle.kinds.specs.Numbers.{kind_number};
+ghost use Rattle.lookup.specs.Local.{local_shape, value_of, key_of, value_key, SmallValue, capability_number, as_list};
 ghost use Rattle.lookup.specs.Packed.{code, bytes_key, base_key, packed_shape, packed_key, Bytes, SmallBase, SmallShape, Small};
 
 use kinds::{AddressSpace, ScalarKind, space_access, space_number};
@@ -25,23 +24,16 @@ use spirv::instructions::{
 use spirv::words::Word;
 
 // `LocalImageType`: every operand of OpTypeImage under its own name, where the Rust has four of them as flags. The sampled type
-// is a scalar of this kind and of width 4.
+// is a scalar of this kind and of width 4. The others are numbers: a shape is told of every one, also of those that no image has.
 #[derive(Clone, Copy)]
 pub struct LocalImageType {
     pub kind: ScalarKind,
-    pub dim: Dim,
-    pub depth: bool,
-    pub arrayed: bool,
-    pub multi: bool,
-    pub sampled: bool,
-    pub format: ImageFormat,
-}
-
-// OpTypeImage's operand Sampled: 1 for an image that is used with a sampler, 2 for one that is not.
-fn sampled_number(sampled: bool) -> u8
-    ensures { result ≡ sampled_number sampled }
-{
-    if sampled { 1 } else { 2 }
+    pub dim: u8,
+    pub depth: u8,
+    pub arrayed: u8,
+    pub multi: u8,
+    pub sampled: u8,
+    pub format: u8,
 }
 
 // `LocalType`: the types that must be declared once, or that no entry of the sheet need have. Its `SampledImage` belongs to
@@ -117,6 +109,25 @@ pub struct Capabilities {
     pub first: Option<Capability>,
     pub second: Option<Capability>,
 }
+
+const DIM_1D: u8 = Dim::Dim1D as u8;
+
+const DIM_CUBE: u8 = Dim::DimCube as u8;
+
+// OpTypeImage's operand Sampled, of an image that is used with a sampler.
+const WITH_SAMPLER: u8 = 1;
+
+const RG32F: u8 = ImageFormat::Rg32f as u8;
+
+const R8_SNORM: u8 = ImageFormat::R8Snorm as u8;
+
+const RG32I: u8 = ImageFormat::Rg32i as u8;
+
+const R8I: u8 = ImageFormat::R8i as u8;
+
+const RGB10A2UI: u8 = ImageFormat::Rgb10a2ui as u8;
+
+const R8UI: u8 = ImageFormat::R8ui as u8;
 
 // OpTypeInt's operand Signedness.
 #[derive(Clone, Copy)]
@@ -197,12 +208,12 @@ pub fn local_key(local: LocalType) -> u64
         LocalType::Image(i) => bytes_key(
             7,
             scalar_code(i.kind, 4),
-            i.dim.number() as u8,
-            i.depth as u8,
-            i.arrayed as u8,
-            i.multi as u8,
-            sampled_number(i.sampled),
-            i.format.number() as u8,
+            i.dim,
+            i.depth,
+            i.arrayed,
+            i.multi,
+            i.sampled,
+            i.format,
         ),
         LocalType::Sampler => 8,
         LocalType::PointerToBindingArray { base, size, space } => {
@@ -304,52 +315,29 @@ fn kind_capability(kind: ScalarKind, width: u8) -> Option<Capability>
     }
 }
 
-// `request_image_format_capabilities`
-#[tactic(auto, unfolding(definition::specs::Finding::format_capabilities))]
-fn format_capability(f: ImageFormat) -> Option<Capability>
-    ensures { as_list result ≡ format_capabilities (format_number f) }
+// `request_image_format_capabilities`: the extended formats have the numbers of three ranges.
+#[tactic(auto, using(crate::proofs::Formats::is_extended), unfolding(definition::specs::Finding::format_capabilities))]
+fn format_capability(f: u8) -> Option<Capability>
+    ensures { as_list result ≡ format_capabilities f }
 {
     match f {
-        ImageFormat::Rg32f
-        | ImageFormat::Rg16f
-        | ImageFormat::R11fG11fB10f
-        | ImageFormat::R16f
-        | ImageFormat::Rgba16
-        | ImageFormat::Rgb10A2
-        | ImageFormat::Rg16
-        | ImageFormat::Rg8
-        | ImageFormat::R16
-        | ImageFormat::R8
-        | ImageFormat::Rgba16Snorm
-        | ImageFormat::Rg16Snorm
-        | ImageFormat::Rg8Snorm
-        | ImageFormat::R16Snorm
-        | ImageFormat::R8Snorm
-        | ImageFormat::Rg32i
-        | ImageFormat::Rg16i
-        | ImageFormat::Rg8i
-        | ImageFormat::R16i
-        | ImageFormat::R8i
-        | ImageFormat::Rgb10a2ui
-        | ImageFormat::Rg32ui
-        | ImageFormat::Rg16ui
-        | ImageFormat::Rg8ui
-        | ImageFormat::R16ui
-        | ImageFormat::R8ui => Some(Capability::StorageImageExtendedFormats),
+        RG32F..=R8_SNORM | RG32I..=R8I | RGB10A2UI..=R8UI => {
+            Some(Capability::StorageImageExtendedFormats)
+        }
         _ => None,
     }
 }
 
 // Of one dimension, or an arrayed cube; which it is depends on whether the image is used with a sampler.
 #[tactic(auto, unfolding(definition::specs::Finding::dim_capabilities))]
-fn dim_capability(d: Dim, arrayed: bool, sampled: bool) -> Option<Capability>
-    ensures { as_list result ≡ dim_capabilities (dim_number d) (flag_number arrayed) (sampled_number sampled) }
+fn dim_capability(d: u8, arrayed: u8, sampled: u8) -> Option<Capability>
+    ensures { as_list result ≡ dim_capabilities d arrayed sampled }
 {
     match (d, arrayed, sampled) {
-        (Dim::Dim1D, _, true) => Some(Capability::Sampled1D),
-        (Dim::Dim1D, _, false) => Some(Capability::Image1D),
-        (Dim::DimCube, true, true) => Some(Capability::SampledCubeArray),
-        (Dim::DimCube, true, false) => Some(Capability::ImageCubeArray),
+        (DIM_1D, _, WITH_SAMPLER) => Some(Capability::Sampled1D),
+        (DIM_1D, _, _) => Some(Capability::Image1D),
+        (DIM_CUBE, 1, WITH_SAMPLER) => Some(Capability::SampledCubeArray),
+        (DIM_CUBE, 1, _) => Some(Capability::ImageCubeArray),
         _ => None,
     }
 }
@@ -422,12 +410,12 @@ pub fn put_shape(sink: &mut [u32], local: LocalType, id: u32, x: u32, y: u32) ->
             sink,
             id,
             x,
-            i.dim.number(),
+            i.dim as u32,
             i.depth as u32,
             i.arrayed as u32,
             i.multi as u32,
-            sampled_number(i.sampled) as u32,
-            i.format.number(),
+            i.sampled as u32,
+            i.format as u32,
         ),
         LocalType::Sampler => type_sampler(sink, id),
         LocalType::PointerToBindingArray { space, .. } => type_pointer(

@@ -9,6 +9,20 @@ use std::io::Read;
 // One byte more than a sheet may have: a longer one is refused by these bytes alone (`judged_held`).
 pub const SHEET: usize = 16385;
 
+// So many bytes at most are thrown away by one read; `io::copy` takes an eighth of them.
+const CHUNK: usize = 65536;
+
+// Reads to the end, and throws away what is read: whoever writes into a pipe must not be stopped because the rest is of no use.
+fn pass_rest(reader: &mut impl Read) -> io::Result<()> {
+    let mut chunk = [0u8; CHUNK];
+    for _ in 0..u64::MAX {
+        if reader.read(&mut chunk)? == 0 {
+            break;
+        }
+    }
+    Ok(())
+}
+
 // Reads to the end, and says how many bytes the buffer holds: as many as it takes. A loop must be seen to end, and nothing says
 // that the input does: so it takes no more turns than a number that no run uses up.
 fn read_all(reader: &mut impl Read, buffer: &mut [u8]) -> io::Result<usize>
@@ -23,8 +37,7 @@ fn read_all(reader: &mut impl Read, buffer: &mut [u8]) -> io::Result<usize>
         held += got;
     }
     if held == buffer.len() {
-        // Whoever writes into a pipe must not be stopped because the rest is of no use.
-        io::copy(reader, &mut io::sink())?;
+        pass_rest(reader)?;
     }
     Ok(held)
 }

@@ -36,3 +36,7 @@ pub record HashesOf (e : Earlier) (hs : List ℕ) : Type 0 where
 -- none of the hashes from i to r is h
 abbrev pub Unlike : List ℕ → ℕ → ℕ → ℕ → Type 0
 Unlike hs h i r = (j : ℕ) → i ≤ j → j < r → get_or hs j 0 ≡ h → ⊥
+
+-- two bodies are not the same
+abbrev pub Differ : List ℕ → List ℕ → Type 0
+Differ e b = e ≡ b → ⊥

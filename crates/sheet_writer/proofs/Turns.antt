@@ -157,7 +157,7 @@ module _ {s rs ts : List ℕ} {k : Counts} {rest : List ℕ} {i : ℕ} {m : List
           → WrittenIn s rs ts k a rest o w c v m'
       unfolding fitness_test
       constant_comes e {c = c} memo d = comes c memo (λ n b x h.
-          d.told x h ∙ ap (λ (vs : List Defined.TypeEntry). unless (constant_fits vs x (Defined.constant_fields r.tag r.body).value) 13 0) (sym b.looked.types)
+          d.told x (w.sections.now, h) ∙ ap (λ (vs : List Defined.TypeEntry). unless (constant_fits vs x (Defined.constant_fields r.tag r.body).value) 13 0) (sym b.looked.types)
           ∙ sym (ap (λ (f : Fields Entry). fitness_test n x f.value) (is_constant r e))) d.refused (λ z. record {
             grown = rw e (d.written z).grown;
             held = λ n b x h. let u = sym b.types in subst (Held v)
@@ -169,7 +169,7 @@ module _ {s rs ts : List ℕ} {k : Counts} {rest : List ℕ} {i : ℕ} {m : List
           → WrittenIn s rs ts k a rest o w c v m'
       unfolding fitness_test
       global_comes e {c = c} memo d = comes c memo (λ n b x h.
-          d.told x h ∙ ap (λ (vs : List Defined.TypeEntry). unless (global_fits vs x (global_in r.body)) 13 0) (sym b.looked.types)
+          d.told x (w.sections.now, h) ∙ ap (λ (vs : List Defined.TypeEntry). unless (global_fits vs x (global_in r.body)) 13 0) (sym b.looked.types)
           ∙ sym (ap (λ (f : Fields Entry). fitness_test n x f.value) (is_global r e))) d.refused (λ z. record {
             grown = rw e (d.written z).grown;
             held = λ n b x h. subst (Held v)

@@ -20,7 +20,7 @@ use Rattle.availability.specs.declared.Available.{Available}
 use Rattle.availability.specs.Flags.{Flagged}
 use Rattle.writer.specs.declared.Writer.{Writer}
 use Rattle.writer.specs.Cost.{Cost, no_cost, a_composite, record_cost, ◌⊕◌}
-use Rattle.writer.specs.Held.{Held, Room, Grown}
+use Rattle.writer.specs.Held.{Held, HeldByTables, Room, Grown}
 use Rattle.refusals.specs.declared.Refusal.{Refusal}
 use Rattle.refusals.specs.Numbers.{test_number}
 
@@ -61,9 +61,9 @@ Ready g rest h m w = ReadyIn g.sheet.now g.remaps.now g.types.now g.counts rest 
 abbrev pub TestsType : Available → Record → ℕ → Type 0
 TestsType a r q = (o : Option (List ℕ)) → Flagged o a → q ≡ unless (shape_available o (shape_of (type_fields r.tag r.body (name_end r.body 0)).value)) 14 0
 
--- test 13, in whatever state is held
+-- test 13, in whatever state the tables hold
 abbrev pub TestsUnfit : (State → Bool) → Writer → ℕ → Type 0
-TestsUnfit fits w q = (x : State) → Held w x → q ≡ unless (fits x) 13 0
+TestsUnfit fits w q = (x : State) → HeldByTables w x → q ≡ unless (fits x) 13 0
 
 -- what a record of one kind comes to: its own test answers, and where it is passed the entry is written; where not, the writer is as
 -- it was

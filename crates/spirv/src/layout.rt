@@ -1,6 +1,6 @@
 // An instruction's words, and the module's header.
-ghost use Rattle.std.specs.Prelude.{◌≡◌, ℕ, ◌^◌, List, ◌++◌, map, ◌≤◌, ◌<◌, length};
-ghost use Rattle.definition.specs.Instructions.{words, packed, plain, header};
+ghost use Rattle.std.specs.Prelude.{◌≡◌, ℕ, ◌^◌, List, ◌++◌, map, ◌≤◌, ◌<◌, length, drop, get_or};
+ghost use Rattle.definition.specs.Instructions.{words, packed, plain, type_op, value_op, header};
 ghost use Rattle.spirv.specs.Put.{Put, FitsWordCount};
 ghost use Rattle.spirv.specs.Ids.{low};
 ghost use Rattle.spirv.specs.Heads.{head};
@@ -93,6 +93,22 @@ pub fn put_plain<O: Word>(sink: &mut [u32], op: O, operands: &[u32]) -> usize
     ensures { Put (words (plain (O.as_word op) operands.now)) sink.old sink.new result }
 {
     put_head(sink, operands.len() + 1, op, operands)
+}
+
+// The same of one that gives an id to a type, which is the first of the operands.
+pub fn put_type<O: Word>(sink: &mut [u32], op: O, operands: &[u32]) -> usize
+    requires { (O.as_word op < 65536) × FitsWordCount operands.now × (1 ≤ length operands.now) }
+    ensures { Put (words (type_op (O.as_word op) (get_or operands.now 0 0) (drop 1 operands.now))) sink.old sink.new result }
+{
+    put_plain(sink, op, operands)
+}
+
+// The same of one that gives an id to a value: its type comes first, then the id.
+pub fn put_value<O: Word>(sink: &mut [u32], op: O, operands: &[u32]) -> usize
+    requires { (O.as_word op < 65536) × FitsWordCount operands.now × (2 ≤ length operands.now) }
+    ensures { Put (words (value_op (O.as_word op) (get_or operands.now 0 0) (get_or operands.now 1 0) (drop 2 operands.now))) sink.old sink.new result }
+{
+    put_plain(sink, op, operands)
 }
 
 // An instruction with more behind its first operands.

@@ -38,7 +38,7 @@ listed_among c [] = refl
 listed_among c (x ∷ xs) = ap (pick (eqb c x) true) (listed_among c xs)
 
 pub finds_block : (id : ℕ) (w : Writer) (r : Bool) → r ≡ is_listed id (part w.tables.now (blocked_at w.used) w.used.blocked) → FindsBlock id w r
-finds_block id w r e s h = e ∙ ap (λ (t : Tables). is_listed id t.blocked) h.tables ∙ listed_among id (blocked s.annotations)
+finds_block id w r e s h = e ∙ ap (λ (t : Tables). is_listed id t.blocked) h.1.tables ∙ listed_among id (blocked s.annotations)
 
 -- ---- the step
 

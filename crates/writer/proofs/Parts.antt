@@ -210,6 +210,6 @@ finds_composite w r key n room q c sm e f s h =
     let end = parts_at u + u.parts in
     let d : end - parts_at u ≡ u.parts = omega arith in
     q ∙ (λ j. seek_parts (e j) (f j) end T (composites_at u) (parts_at u) u.composites)
-    ∙ seek_composite c sm end T (composites_at u) (parts_at u) u.composites s.constants.composites h.small.composed
-    (ap (λ (t : Tables). t.composites) h.tables) (omega arith) (omega arith)
-    (ap (λ (m : ℕ). part T (parts_at u) m) d ∙ ap (λ (t : Tables). t.parts) h.tables)
+    ∙ seek_composite c sm end T (composites_at u) (parts_at u) u.composites s.constants.composites h.1.small.composed
+    (ap (λ (t : Tables). t.composites) h.1.tables) (omega arith) (omega arith)
+    (ap (λ (m : ℕ). part T (parts_at u) m) d ∙ ap (λ (t : Tables). t.parts) h.1.tables)

@@ -135,11 +135,11 @@ seek_null n t = is_lookup ℕ_discrete (λ x. x) (λ x. 0) (λ x. Unit) (λ x y 
 module _ (w : Writer) (r : Option ℕ) where
   pub finds_type : (key : ℕ) → r ≡ seek_in key 0 (table_rows pair w.tables.now 0 w.used.types) → FindsType key w r
   finds_type key q k sm e s h =
-      q ∙ ap (λ (n : ℕ). seek_in n 0 (table_rows pair w.tables.now 0 w.used.types)) e ∙ ap (λ (t : Tables). seek_in (packed_key k) 0 t.types) h.tables ∙ seek_key k sm s.types h.small.keys
+      q ∙ ap (λ (n : ℕ). seek_in n 0 (table_rows pair w.tables.now 0 w.used.types)) e ∙ ap (λ (t : Tables). seek_in (packed_key k) 0 t.types) h.1.tables ∙ seek_key k sm s.types h.1.small.keys
 
   pub finds_literal : (form bits : ℕ) → r ≡ seek_in form bits (table_rows triple w.tables.now (literals_at w.used) w.used.literals) → FindsLiteral form bits w r
   finds_literal form bits q l e f s h =
-      q ∙ (λ j. seek_in (e j) (f j) (table_rows triple w.tables.now (literals_at w.used) w.used.literals)) ∙ ap (λ (t : Tables). seek_in (literal_form l) (bits_of l) t.literals) h.tables ∙ seek_literal l s.constants.literals
+      q ∙ (λ j. seek_in (e j) (f j) (table_rows triple w.tables.now (literals_at w.used) w.used.literals)) ∙ ap (λ (t : Tables). seek_in (literal_form l) (bits_of l) t.literals) h.1.tables ∙ seek_literal l s.constants.literals
 
   pub finds_null : (ty : ℕ) → r ≡ seek_in ty 0 (table_rows pair w.tables.now (nulls_at w.used) w.used.nulls) → FindsNull ty w r
-  finds_null ty q s h = q ∙ ap (λ (t : Tables). seek_in ty 0 t.nulls) h.tables ∙ seek_null ty s.constants.nulls
+  finds_null ty q s h = q ∙ ap (λ (t : Tables). seek_in ty 0 t.nulls) h.1.tables ∙ seek_null ty s.constants.nulls

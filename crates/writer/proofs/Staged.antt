@@ -13,7 +13,7 @@ use Rattle.writer.specs.declared.Writer.{Writer}
 use Rattle.writer.specs.Rows.{pair, triple, part}
 use Rattle.writer.specs.Regions.{literals_at, nulls_at, values_at, composites_at, blocked_at, parts_at}
 use Rattle.writer.specs.Cost.{Cost, no_cost, staging}
-use Rattle.writer.specs.Held.{tables_of, Held, RowsFit, RoomIn, Grown}
+use Rattle.writer.specs.Held.{tables_of, HeldIn, HeldByTables, RowsFit, RoomIn, Grown}
 use Rattle.writer.specs.Staged.{Staged}
 use Rattle.writer.specs.Steps.{Kept, staged, with_part}
 use Rattle.writer.proofs.Regions.{left, rows_agree, part_agree, part_left, part_more}
@@ -35,7 +35,8 @@ module _ (u : Used) (T ws : List ℕ) (p : ℕ) (late : parts_at u + u.parts ≤
     parts = part_left T p ws inside (parts_at u) u.parts (omega arith) i;
   }
 
-held_behind : (w : Writer) (ws : List ℕ) (p : ℕ) → waiting w ≤ p → p + length ws ≤ length w.tables.now → RoomIn no_cost w → (s : State) → Held w s → Held (record w { tables = record w.tables { now = splice w.tables.now p ws } }) s
+held_behind : (w : Writer) (ws : List ℕ) (p : ℕ) → waiting w ≤ p → p + length ws ≤ length w.tables.now → RoomIn no_cost w
+    → {S : List ℕ} (s : State) → HeldIn w.used w.tables.now S s → HeldIn w.used (splice w.tables.now p ws) S s
 held_behind w ws p late inside room s h = record { last = h.last; tables = tables_kept w.used w.tables.now ws p late inside room ∙ h.tables; small = h.small; sections = h.sections }
 
 -- what is staged is not in use
@@ -43,10 +44,10 @@ pub staged_grown : {n : ℕ} {ps : State → List ℕ} {w v : Writer} → Staged
 staged_grown {w = w} {v = v} q = subst (λ (u : Used). Grown no_cost w (record v { used = u })) (sym q.used) (omega (arith, q.lent))
 
 pub staged_none : (w : Writer) → Staged 0 (λ s. []) w w
-staged_none w = record { lent = record { tables = refl; sections = refl; tables_long = refl; sections_long = refl }; used = refl; sections = refl; held = λ s h. h; parts = λ s h. refl }
+staged_none w = record { lent = record { tables = refl; sections = refl; tables_long = refl; sections_long = refl }; used = refl; sections = refl; held = λ s h. h; apart = λ S s h. h; parts = λ s h. refl }
 
 -- one part more
-pub staged_more : {n : ℕ} {ps : State → List ℕ} {w v : Writer} → Staged n ps w v → RoomIn (staging (n + 1)) w → (x : ℕ) (f : State → ℕ) → ((s : State) → Held v s → x ≡ f s)
+pub staged_more : {n : ℕ} {ps : State → List ℕ} {w v : Writer} → Staged n ps w v → RoomIn (staging (n + 1)) w → (x : ℕ) (f : State → ℕ) → ((s : State) → HeldByTables v s → x ≡ f s)
     → Staged (n + 1) (λ s. ps s ++ f s ∷ []) w (with_part n x v)
 staged_more {n = n} {w = w} {v = v} q room x f e =
     let fits : RowsFit (staging (n + 1)) v.used v.tables.now = rw q.used (omega (arith, room, q.lent)) in
@@ -55,7 +56,8 @@ staged_more {n = n} {w = w} {v = v} q room x f e =
       used = q.used;
       sections = q.sections;
       held = λ s h. held_behind v (x ∷ []) (waiting v + n) (omega arith) (omega (arith, fits)) (omega (arith, fits)) s (q.held s h);
-      parts = λ s h. part_more v.tables.now (waiting v) n (waiting v + n) (x ∷ []) refl (omega (arith, fits)) ∙ (λ j. q.parts s h j ++ e s (q.held s h) j ∷ []);
+      apart = λ S s h. held_behind v (x ∷ []) (waiting v + n) (omega arith) (omega (arith, fits)) (omega (arith, fits)) s (q.apart S s h);
+      parts = λ s h. part_more v.tables.now (waiting v) n (waiting v + n) (x ∷ []) refl (omega (arith, fits)) ∙ (λ j. q.parts s h j ++ e s (h.0, q.apart h.0 s h.1) j ∷ []);
     }
 
 -- what waits behind the parts in use still does

@@ -1,13 +1,18 @@
 -- Entering a row in a table: the row stands behind those of its table, and every other table and every section is as it was. One
 -- law for all tables of rows; a composite also puts its parts behind those in use.
+use Rattle.std.specs.Prelude.{Option}
 use Prim.Native.Nat.{ℕ, ◌+◌, ◌*◌, ◌≤◌}
 use mathlib.Core.Path.{◌≡◌, refl, sym, ap, ◌∙◌}
 use mathlib.Core.List.{List, [], ◌∷◌, ◌++◌, append_assoc, append-nil, map}
 use native.Mathlib.Omega.{arith}
 use lib.ListN.{length, take, drop, length-drop}
 use lib.Seq.{length-take-le, take-add, drop-drop}
-use Rattle.definition.specs.State.{Composite, Valued}
-use Rattle.lookup.specs.Packed.{Small}
+use Rattle.literals.specs.Forms.{literal_form, bits_of}
+use Rattle.definition.specs.Literals.{Literal}
+use Rattle.definition.specs.Shapes.{Kind, Key}
+use Rattle.definition.specs.State.{State, Composite, Valued, enter}
+use Rattle.definition.specs.Rules.{enter_value}
+use Rattle.lookup.specs.Packed.{Small, packed_key}
 use Rattle.spirv.specs.Sections.{splice}
 use Rattle.spirv.proofs.Splices.{splice-length}
 use Rattle.writer.specs.declared.Used.{Used}
@@ -15,8 +20,8 @@ use Rattle.writer.specs.declared.Writer.{Writer}
 use Rattle.writer.specs.Rows.{TableRow, table_row, RowKind, pair, triple, row_length, table_rows, part}
 use Rattle.writer.specs.Regions.{literals_at, nulls_at, values_at, composites_at, blocked_at, parts_at}
 use Rattle.writer.specs.Cost.{a_type, a_literal, a_null, a_value, a_composite}
-use Rattle.writer.specs.Held.{Tables, tables_of, tables_in, key_row, literal_row, null_row, value_row, composite_row, SmallComposite, parts_of_c, all_parts, All, AllKinds, SmallKind, RowsFit, RoomIn}
-use Rattle.writer.specs.Steps.{staged, EnteredType, EnteredLiteral, EnteredNull, EnteredComposite, EnteredValue}
+use Rattle.writer.specs.Held.{Tables, tables_of, tables_in, key_row, literal_row, null_row, value_row, composite_row, SmallComposite, parts_of_c, all_parts, All, AllKinds, SmallKind, HeldIn, RowsFit, RoomIn, composite_key, kind_code}
+use Rattle.writer.specs.Steps.{staged, note_literal, note_null, note_composite, EnteredType, EnteredLiteral, EnteredNull, EnteredComposite, EnteredValue}
 use Rattle.writer.proofs.Regions.{left, right, behind, rows_agree, pair_put, triple_put, rows_more, part_right}
 
 map_snoc : {A : Type 0} (f : A → TableRow) (xs : List A) (x : A) → map f xs ++ f x ∷ [] ≡ map f (xs ++ x ∷ [])
@@ -151,55 +156,92 @@ kinds_snoc (x ∷ xs) v p h = (h.0, kinds_snoc xs v p h.1)
 abbrev pub entered : Writer → Used → List ℕ → Writer
 entered w u T = record w { tables = record w.tables { now = T }; used = u }
 
+-- what was held is held with the row, whatever the sections are
+module _ (w : Writer) (S : List ℕ) (s : State) (h : HeldIn w.used w.tables.now S s) where
+  type_held : (key id : ℕ) → RoomIn a_type w → (k : Key) → Small k → key ≡ packed_key k
+      → HeldIn (more_types w.used) (splice w.tables.now (2 * w.used.types) (key ∷ id ∷ [])) S (enter k id s)
+  type_held key id room k sm e = record {
+    last = h.last;
+    tables = types_row w.used w.tables.now key id room
+        ∙ ap (λ (t : Tables). record t { types = t.types ++ table_row key 0 id ∷ [] }) h.tables
+        ∙ (λ i. record (tables_in s) { types = (ap (λ (n : ℕ). map key_row s.types ++ table_row n 0 id ∷ []) e ∙ map_snoc key_row s.types (k, id)) i });
+    small = record { keys = all_snoc Small s.types k id sm h.small.keys; composed = h.small.composed; kinds = h.small.kinds };
+    sections = h.sections;
+  }
+
+  literal_held : (form bits id : ℕ) → RoomIn a_literal w → (l : Literal) → form ≡ literal_form l → bits ≡ bits_of l
+      → HeldIn (more_literals w.used) (splice w.tables.now (literals_at w.used + 3 * w.used.literals) (form ∷ bits ∷ id ∷ [])) S (note_literal l id s)
+  literal_held form bits id room l e f = record {
+    last = h.last;
+    tables = literals_row w.used w.tables.now form bits id room
+        ∙ ap (λ (t : Tables). record t { literals = t.literals ++ table_row form bits id ∷ [] }) h.tables
+        ∙ (λ i. record (tables_in s) { literals = ((λ j. map literal_row s.constants.literals ++ table_row (e j) (f j) id ∷ []) ∙ map_snoc literal_row s.constants.literals (l, id)) i });
+    small = h.small;
+    sections = h.sections;
+  }
+
+  null_held : (t id : ℕ) → RoomIn a_null w → HeldIn (more_nulls w.used) (splice w.tables.now (nulls_at w.used + 2 * w.used.nulls) (t ∷ id ∷ [])) S (note_null t id s)
+  null_held t id room = record {
+    last = h.last;
+    tables = nulls_row w.used w.tables.now t id room
+        ∙ ap (λ (u : Tables). record u { nulls = u.nulls ++ table_row t 0 id ∷ [] }) h.tables
+        ∙ (λ i. record (tables_in s) { nulls = map_snoc null_row s.constants.nulls (t, id) i });
+    small = h.small;
+    sections = h.sections;
+  }
+
+  value_held : (id ty kind : ℕ) → RoomIn a_value w → (o : Option Kind) → kind ≡ kind_code o → SmallKind o
+      → HeldIn (more_values w.used) (splice w.tables.now (values_at w.used + 3 * w.used.values) (id ∷ ty ∷ kind ∷ [])) S (enter_value (record { id = id; type = ty; kind = o }) s)
+  value_held id ty kind room o e sm =
+      let v : Valued = record { id = id; type = ty; kind = o } in
+      let vs = s.constants.values in
+      record {
+        last = h.last;
+        tables = values_row w.used w.tables.now id ty kind room
+            ∙ ap (λ (t : Tables). record t { values = t.values ++ table_row id ty kind ∷ [] }) h.tables
+            ∙ (λ i. record (tables_in s) { values = (ap (λ (n : ℕ). map value_row vs ++ table_row id ty n ∷ []) e ∙ map_snoc value_row vs v) i });
+        small = record { keys = h.small.keys; composed = h.small.composed; kinds = kinds_snoc vs v sm h.small.kinds };
+        sections = h.sections;
+      }
+
+  composite_held : (key n id : ℕ) → RoomIn (a_composite n) w → (c : Composite) → SmallComposite c → key ≡ composite_key c → staged n w ≡ parts_of_c c
+      → HeldIn (more_composites w.used n) (splice w.tables.now (composites_at w.used + 3 * w.used.composites) (key ∷ n ∷ id ∷ [])) S (note_composite c id s)
+  composite_held key n id room c sm e f =
+      let cs = s.constants.composites in
+      let len : n ≡ length (parts_of_c c) = sym (length-take-le n (drop (parts_at w.used + w.used.parts) w.tables.now) (simp length-drop (omega arith))) ∙ ap length f in
+      record {
+        last = h.last;
+        tables = composites_row w.used w.tables.now key n id room
+            ∙ ap (λ (t : Tables). record t { composites = t.composites ++ table_row key n id ∷ []; parts = t.parts ++ staged n w }) h.tables
+            ∙ (λ i. record (tables_in s) { composites = ((λ j. map composite_row cs ++ table_row (e j) (len j) id ∷ []) ∙ map_snoc composite_row cs (c, id)) i; parts = (ap (λ (l : List ℕ). all_parts cs ++ l) f ∙ parts_snoc cs c id) i });
+        small = record { keys = h.small.keys; composed = all_snoc SmallComposite cs c id sm h.small.composed; kinds = h.small.kinds };
+        sections = h.sections;
+      }
+
 module _ (w : Writer) where
   pub entered_composite : (key n id : ℕ) → RoomIn (a_composite n) w → (T : List ℕ) → T ≡ splice w.tables.now (composites_at w.used + 3 * w.used.composites) (key ∷ n ∷ id ∷ []) → EnteredComposite key n id w (entered w (more_composites w.used n) T)
   entered_composite key n id room T e = rw e (record {
     grown = omega (arith, splice-length w.tables.now (composites_at w.used + 3 * w.used.composites) (key ∷ n ∷ id ∷ []) (omega arith));
     sections = refl;
-    held = λ c sm e f s h.
-        let cs = s.constants.composites in
-        let len : n ≡ length (parts_of_c c) = sym (length-take-le n (drop (parts_at w.used + w.used.parts) w.tables.now) (simp length-drop (omega arith))) ∙ ap length f in
-        record {
-          last = h.last;
-          tables = composites_row w.used w.tables.now key n id room
-              ∙ ap (λ (t : Tables). record t { composites = t.composites ++ table_row key n id ∷ []; parts = t.parts ++ staged n w }) h.tables
-              ∙ (λ i. record (tables_in s) { composites = ((λ j. map composite_row cs ++ table_row (e j) (len j) id ∷ []) ∙ map_snoc composite_row cs (c, id)) i; parts = (ap (λ (l : List ℕ). all_parts cs ++ l) f ∙ parts_snoc cs c id) i });
-          small = record { keys = h.small.keys; composed = all_snoc SmallComposite cs c id sm h.small.composed; kinds = h.small.kinds };
-          sections = h.sections;
-        };
+    held = λ c sm e f s h. composite_held w w.sections.now s h key n id room c sm e f;
+    apart = λ c sm e f S s h. composite_held w S s h key n id room c sm e f;
   })
 
   pub entered_value : (id ty kind : ℕ) → RoomIn a_value w → (T : List ℕ) → T ≡ splice w.tables.now (values_at w.used + 3 * w.used.values) (id ∷ ty ∷ kind ∷ []) → EnteredValue id ty kind w (entered w (more_values w.used) T)
   entered_value id ty kind room T e = rw e (record {
     grown = omega (arith, splice-length w.tables.now (values_at w.used + 3 * w.used.values) (id ∷ ty ∷ kind ∷ []) (omega arith));
     sections = refl;
-    held = λ o e sm s h.
-        let v : Valued = record { id = id; type = ty; kind = o } in
-        let vs = s.constants.values in
-        record {
-          last = h.last;
-          tables = values_row w.used w.tables.now id ty kind room
-              ∙ ap (λ (t : Tables). record t { values = t.values ++ table_row id ty kind ∷ [] }) h.tables
-              ∙ (λ i. record (tables_in s) { values = (ap (λ (n : ℕ). map value_row vs ++ table_row id ty n ∷ []) e ∙ map_snoc value_row vs v) i });
-          small = record { keys = h.small.keys; composed = h.small.composed; kinds = kinds_snoc vs v sm h.small.kinds };
-          sections = h.sections;
-        };
+    held = λ o e sm s h. value_held w w.sections.now s h id ty kind room o e sm;
+    apart = λ o e sm S s h. value_held w S s h id ty kind room o e sm;
   })
 
-module _ (w : Writer) where
   pub entered_type : (key id : ℕ) → RoomIn a_type w → (T : List ℕ) → T ≡ splice w.tables.now (2 * w.used.types) (key ∷ id ∷ []) → EnteredType key id w (entered w (more_types w.used) T)
   entered_type key id room T e = rw e (record {
     grown = omega (arith, splice-length w.tables.now (2 * w.used.types) (key ∷ id ∷ []) (omega arith));
     tail = record { parts = refl; ids = λ j l. behind w.tables.now (2 * w.used.types) (key ∷ id ∷ []) (omega arith) j (omega arith); tables = λ z. absurd (omega (arith, z)) };
     sections = refl;
-    held = λ k sm e s h. record {
-      last = h.last;
-      tables = types_row w.used w.tables.now key id room
-          ∙ ap (λ (t : Tables). record t { types = t.types ++ table_row key 0 id ∷ [] }) h.tables
-          ∙ (λ i. record (tables_in s) { types = (ap (λ (n : ℕ). map key_row s.types ++ table_row n 0 id ∷ []) e ∙ map_snoc key_row s.types (k, id)) i });
-      small = record { keys = all_snoc Small s.types k id sm h.small.keys; composed = h.small.composed; kinds = h.small.kinds };
-      sections = h.sections;
-    };
+    held = λ k sm e s h. type_held w w.sections.now s h key id room k sm e;
+    apart = λ k sm e S s h. type_held w S s h key id room k sm e;
   })
 
   pub entered_literal : (form bits id : ℕ) → RoomIn a_literal w → (T : List ℕ) → T ≡ splice w.tables.now (literals_at w.used + 3 * w.used.literals) (form ∷ bits ∷ id ∷ []) → EnteredLiteral form bits id w (entered w (more_literals w.used) T)
@@ -207,14 +249,8 @@ module _ (w : Writer) where
     grown = omega (arith, splice-length w.tables.now (literals_at w.used + 3 * w.used.literals) (form ∷ bits ∷ id ∷ []) (omega arith));
     tail = record { parts = refl; ids = λ j l. behind w.tables.now (literals_at w.used + 3 * w.used.literals) (form ∷ bits ∷ id ∷ []) (omega arith) j (omega arith); tables = λ z. absurd (omega (arith, z)) };
     sections = refl;
-    held = λ l e f s h. record {
-      last = h.last;
-      tables = literals_row w.used w.tables.now form bits id room
-          ∙ ap (λ (t : Tables). record t { literals = t.literals ++ table_row form bits id ∷ [] }) h.tables
-          ∙ (λ i. record (tables_in s) { literals = ((λ j. map literal_row s.constants.literals ++ table_row (e j) (f j) id ∷ []) ∙ map_snoc literal_row s.constants.literals (l, id)) i });
-      small = h.small;
-      sections = h.sections;
-    };
+    held = λ l e f s h. literal_held w w.sections.now s h form bits id room l e f;
+    apart = λ l e f S s h. literal_held w S s h form bits id room l e f;
   })
 
   pub entered_null : (t id : ℕ) → RoomIn a_null w → (T : List ℕ) → T ≡ splice w.tables.now (nulls_at w.used + 2 * w.used.nulls) (t ∷ id ∷ []) → EnteredNull t id w (entered w (more_nulls w.used) T)
@@ -222,14 +258,8 @@ module _ (w : Writer) where
     kept = record {
       grown = omega (arith, splice-length w.tables.now (nulls_at w.used + 2 * w.used.nulls) (t ∷ id ∷ []) (omega arith));
       tail = record { parts = refl; ids = λ j l. behind w.tables.now (nulls_at w.used + 2 * w.used.nulls) (t ∷ id ∷ []) (omega arith) j (omega arith); tables = λ z. absurd (omega (arith, z)) };
-      held = λ s h. record {
-        last = h.last;
-        tables = nulls_row w.used w.tables.now t id room
-            ∙ ap (λ (u : Tables). record u { nulls = u.nulls ++ table_row t 0 id ∷ [] }) h.tables
-            ∙ (λ i. record (tables_in s) { nulls = map_snoc null_row s.constants.nulls (t, id) i });
-        small = h.small;
-        sections = h.sections;
-      };
+      held = λ s h. null_held w w.sections.now s h t id room;
     };
     sections = refl;
+    apart = λ S s h. null_held w S s h t id room;
   })

@@ -7,7 +7,7 @@ use Rattle.definition.specs.State.{State, Got, got}
 use Rattle.writer.specs.declared.Writer.{Writer}
 use Rattle.writer.specs.Cost.{Cost, ◌⊕◌}
 use Rattle.writer.specs.Held.{Held, Room, Grown}
-use Rattle.writer.specs.Steps.{Tail, Kept, Gives, GotBy, FoundBy, Took}
+use Rattle.writer.specs.Steps.{Tail, Kept, Added, Gives, GotBy, FoundBy, Took}
 
 -- no part of a cost is more than the other's
 pub record AtMost (c d : Cost) : Type 0 where
@@ -54,6 +54,16 @@ in_turn {f = f} p q = record { grown = p.grown ▹ q.grown; tail = tail_then p.g
 
 pub kept_as : {c d : Cost} {f g : State → State} {w v : Writer} → Kept c f w v → AtMost c d → ((s : State) → Held w s → f s ≡ g s) → Kept d g w v
 kept_as {v = v} p m e = record { grown = grown_within m p.grown; tail = tail_within m p.tail; held = λ s h. subst (Held v) (e s h) (p.held s h) }
+
+-- .. of the sections alone
+pub added_still : (c : Cost) (w : Writer) → Added c (λ s. s) w w
+added_still c w = record { kept = still c w (λ s. refl); apart = λ T s h. h }
+
+pub added_then : {c d : Cost} {f g : State → State} {w v u : Writer} → Added c f w v → Added d g v u → Added (c ⊕ d) (λ s. g (f s)) w u
+added_then {f = f} p q = record { kept = in_turn p.kept q.kept; apart = λ T s h. q.apart T (f s) (p.apart T s h) }
+
+pub added_within : {c d : Cost} {f : State → State} {w v : Writer} → Added c f w v → AtMost c d → Added d f w v
+added_within p m = record { kept = kept_as p.kept m (λ s h. refl); apart = p.apart }
 
 -- ---- ids
 

@@ -50,13 +50,13 @@ module _ (w : Writer) (c : ℕ) where
   pub value_there : c < w.used.values → ValueAt c w (value_in w.tables.now (values_at w.used + 3 * c))
   value_there h = record {
     named = rw (lt-ltb c w.used.values h);
-    held = λ s y. there w.tables.now (values_at w.used) w.used.values s.constants.values (ap (λ (t : Tables). t.values) y.tables) y.small.kinds c (values_at w.used + 3 * c) h refl;
+    held = λ s y. there w.tables.now (values_at w.used) w.used.values s.constants.values (ap (λ (t : Tables). t.values) y.1.tables) y.1.small.kinds c (values_at w.used + 3 * c) h refl;
   }
 
   pub value_past : w.used.values ≤ c → ValueAt c w nothing
   value_past h = record {
     named = rw (le-ltb c w.used.values h);
     held = λ s y.
-        let e = past w.tables.now (values_at w.used) w.used.values s.constants.values (ap (λ (t : Tables). t.values) y.tables) c h in
+        let e = past w.tables.now (values_at w.used) w.used.values s.constants.values (ap (λ (t : Tables). t.values) y.1.tables) c h in
         rw (← e) (record { id = refl; type = refl; kind = refl; small = omega arith });
   }

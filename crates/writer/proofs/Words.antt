@@ -12,7 +12,7 @@ use borrow.Author.Tests.{eq-eqb, ne_eqb, eqb-true}
 use Rattle.std.specs.List.{list_any}
 use Rattle.definition.specs.Choice.{pick}
 use Rattle.definition.specs.Instructions.{Instruction, words, all_words}
-use Rattle.definition.specs.State.{State, occurrences, same, list_one, listed, annotate}
+use Rattle.definition.specs.State.{State, occurrences, same, list_one, listed, annotate, declare_alone}
 use Rattle.definition.specs.Rules.{blocked_by, blocked}
 use Rattle.spirv.specs.Put.{Put}
 use Rattle.spirv.specs.Sections.{splice}
@@ -23,9 +23,9 @@ use Rattle.writer.specs.declared.Used.{Used}
 use Rattle.writer.specs.declared.Writer.{Writer}
 use Rattle.writer.specs.Rows.{part, is_listed}
 use Rattle.writer.specs.Regions.{section_at, Section, names, annotations, declarations, used, more, add_to}
-use Rattle.writer.specs.Cost.{declaring, section_words}
+use Rattle.writer.specs.Cost.{declaring, listing_cost, section_words}
 use Rattle.writer.specs.Held.{Sections, tables_in, sections_of, sections_in, words_of, HeldIn, Held, WordsFit, RoomFor, SameLent}
-use Rattle.writer.specs.Steps.{Kept, Spelt, Alone, Spells, Puts as PutsOne, Listed, Pending, Committed}
+use Rattle.writer.specs.Steps.{Kept, Spelt, Alone, Spells, Puts as PutsOne, listing, Listed, Pending, Committed}
 use Rattle.writer.proofs.Regions.{part_left, part_right, part_more}
 
 map-append : (xs ys : List ℕ) → map low (xs ++ ys) ≡ map low xs ++ map low ys
@@ -140,8 +140,8 @@ module _ (b : Section) {n : ℕ} {i : Instruction} {ws : List ℕ} (k : Spells n
       let u = w.used in
       let S = w.sections.now in
       let back = Puts.back S (end_of b u) z in
-      kept_by b n m back w (add_to b i) put_few (put_long u S ws n k.few b z m room put)
-      (added b m u w.tables.now S back ws i (put_appended u S ws n k.few b z m room put) k.spelt a)
+      let apart : (T : List ℕ) (s : State) → HeldIn u T S s → HeldIn (more b u m) T back (add_to b i s) = λ T. added b m u T S back ws i (put_appended u S ws n k.few b z m room put) k.spelt a in
+      record { kept = kept_by b n m back w (add_to b i) put_few (put_long u S ws n k.few b z m room put) (apart w.tables.now); apart = apart }
 
 -- ---- capabilities
 
@@ -193,68 +193,71 @@ same_lent w = record { tables = refl; sections = refl; tables_long = refl; secti
 
 pub lists_none : (w : Writer) → Listed [] w w
 unfolding listed
-lists_none w = record { few = omega arith; lent = same_lent w; tables = refl; kept = λ room. record { grown = omega arith; tail = record { parts = refl; ids = λ j l. refl; tables = λ z. refl }; held = λ s h. h } }
+lists_none w = record { few = omega arith; used = refl; lent = same_lent w; tables = refl; kept = λ room. record { grown = omega arith; tail = record { parts = refl; ids = λ j l. refl; tables = λ z. refl }; held = λ s h. h }; apart = λ room T s h. h }
 
 module _ (w : Writer) (c : ℕ) where
   -- what the definition makes of the state's capabilities
-  lists : (b : Bool) → is_listed c (part w.sections.now 0 w.used.capabilities) ≡ b → (s : State) → Held w s → is_listed c s.capabilities ≡ b
+  lists : (b : Bool) → is_listed c (part w.sections.now 0 w.used.capabilities) ≡ b → {T : List ℕ} (s : State) → HeldIn w.used T w.sections.now s → is_listed c s.capabilities ≡ b
   lists b e s h = sym (ap (λ (t : Sections). is_listed c t.capabilities) h.sections) ∙ e
 
   pub lists_old : is_listed c (part w.sections.now 0 w.used.capabilities) ≡ true → Listed (c ∷ []) w w
   unfolding listed
-  lists_old e = record {
-    few = omega arith;
-    lent = same_lent w;
-    tables = refl;
-    kept = λ room. record {
-      grown = omega arith;
-      tail = record { parts = refl; ids = λ j l. refl; tables = λ z. refl };
-      held = λ s h.
-          let q : s.capabilities ≡ list_one (occurrences c s.capabilities) c s.capabilities = sym (old c s.capabilities (lists true e s h)) in
-          record {
-            last = h.last;
-            tables = h.tables;
-            small = h.small;
-            sections = h.sections ∙ (λ i. record (sections_in s) { capabilities = q i });
-          };
-    };
-  }
+  lists_old e =
+      let apart : (T : List ℕ) (s : State) → HeldIn w.used T w.sections.now s → HeldIn w.used T w.sections.now (listing (c ∷ []) s) = λ T s h.
+      let q : s.capabilities ≡ list_one (occurrences c s.capabilities) c s.capabilities = sym (old c s.capabilities (lists true e s h)) in
+      record {
+        last = h.last;
+        tables = h.tables;
+        small = h.small;
+        sections = h.sections ∙ (λ i. record (sections_in s) { capabilities = q i });
+      } in
+      record {
+        few = omega arith;
+        used = refl;
+        lent = same_lent w;
+        tables = refl;
+        kept = λ room. record { grown = omega arith; tail = record { parts = refl; ids = λ j l. refl; tables = λ z. refl }; held = apart w.tables.now };
+        apart = λ room. apart;
+      }
 
   pub lists_new : is_listed c (part w.sections.now 0 w.used.capabilities) ≡ false
       → Listed (c ∷ []) w (record w { used = record w.used { capabilities = w.used.capabilities + 1 }; sections = record w.sections { now = set w.sections.now w.used.capabilities c } })
   unfolding listed
-  lists_new e = record {
-    few = omega arith;
-    lent = record { tables = refl; sections = refl; tables_long = refl; sections_long = length-set w.sections.now w.used.capabilities c };
-    tables = refl;
-    kept = λ room.
-        let u = w.used in
-        let S = w.sections.now in
-        let p = u.capabilities in
-        let ws = c ∷ [] in
-        let inside : p + 1 ≤ length S = omega arith in
-        let put : set S p c ≡ splice S p ws = sets-eq ws S p inside in
-        let f : sections_of (record u { capabilities = p + 1 }) (splice S p ws) ≡ record (sections_of u S) { capabilities = (sections_of u S).capabilities ++ ws } = λ i. record {
-          capabilities = part_more S 0 p p ws (omega arith) inside i;
-          names = part_right S p ws inside (section_at names u) u.names (omega arith) i;
-          annotations = part_right S p ws inside (section_at annotations u) u.annotations (omega arith) i;
-          declarations = part_right S p ws inside (section_at declarations u) u.declarations (omega arith) i;
-        } in
-        record {
+  lists_new e =
+      let u = w.used in
+      let S = w.sections.now in
+      let p = u.capabilities in
+      let ws = c ∷ [] in
+      let apart : RoomFor (listing_cost 1) w → (T : List ℕ) (s : State) → HeldIn u T S s → HeldIn (record u { capabilities = p + 1 }) T (set S p c) (listing (c ∷ []) s) = λ room T s h.
+      let inside : p + 1 ≤ length S = omega arith in
+      let put : set S p c ≡ splice S p ws = sets-eq ws S p inside in
+      let f : sections_of (record u { capabilities = p + 1 }) (splice S p ws) ≡ record (sections_of u S) { capabilities = (sections_of u S).capabilities ++ ws } = λ i. record {
+        capabilities = part_more S 0 p p ws (omega arith) inside i;
+        names = part_right S p ws inside (section_at names u) u.names (omega arith) i;
+        annotations = part_right S p ws inside (section_at annotations u) u.annotations (omega arith) i;
+        declarations = part_right S p ws inside (section_at declarations u) u.declarations (omega arith) i;
+      } in
+      let q : s.capabilities ++ ws ≡ list_one (occurrences c s.capabilities) c s.capabilities = sym (new c s.capabilities (lists false e s h)) in
+      record {
+        last = h.last;
+        tables = h.tables;
+        small = h.small;
+        sections = ap (sections_of (record u { capabilities = p + 1 })) put ∙ f
+            ∙ ap (λ (t : Sections). record t { capabilities = t.capabilities ++ ws }) h.sections
+            ∙ (λ i. record (sections_in s) { capabilities = q i });
+      } in
+      record {
+        few = omega arith;
+        used = refl;
+        lent = record { tables = refl; sections = refl; tables_long = refl; sections_long = length-set S p c };
+        tables = refl;
+        kept = λ room. record {
           grown = omega (arith, length-set {A = ℕ});
           tail = record { parts = refl; ids = λ j l. refl; tables = λ z. refl };
-          held = λ s h.
-              let q : s.capabilities ++ ws ≡ list_one (occurrences c s.capabilities) c s.capabilities = sym (new c s.capabilities (lists false e s h)) in
-              record {
-                last = h.last;
-                tables = h.tables;
-                small = h.small;
-                sections = ap (sections_of (record u { capabilities = p + 1 })) put ∙ f
-                    ∙ ap (λ (t : Sections). record t { capabilities = t.capabilities ++ ws }) h.sections
-                    ∙ (λ i. record (sections_in s) { capabilities = q i });
-              };
+          held = apart room w.tables.now;
         };
-  }
+        apart = apart;
+      }
 
 -- ---- an instruction word by word
 
@@ -269,32 +272,36 @@ pending w k ws S p at e room =
       annotations = part_left R p ws (omega arith) (section_at annotations u) u.annotations (omega arith) i;
       declarations = part_left R p ws (omega arith) (section_at declarations u) u.declarations (omega arith) i;
     } in
+    let apart : (T : List ℕ) (s : State) → HeldIn u T R s → HeldIn u T (splice R p ws) s = λ T s h. record { last = h.last; tables = h.tables; small = h.small; sections = q ∙ h.sections } in
     rw e (record {
       lent = omega (arith, splice-length R p ws (omega arith));
       used = refl;
       tables = refl;
-      still = λ s h. record { last = h.last; tables = h.tables; small = h.small; sections = q ∙ h.sections };
+      still = apart w.tables.now;
+      apart = apart;
       more = part_more R (end_of declarations u) k p ws at (omega arith);
     })
 
 pub committed : (w : Writer) (n : ℕ) → Committed n w (record w { used = more declarations w.used n })
 unfolding listed
-committed w n = record {
-  grown = omega arith;
-  tail = record { parts = refl; ids = λ j l. refl; tables = λ z. refl };
-  sections = refl;
-  held = λ s i e h.
-      let u = w.used in
-      let S = w.sections.now in
-      let f = sym e in
-      let d : part S (section_at declarations u) (u.declarations + n) ≡ part S (section_at declarations u) u.declarations ++ part S (end_of declarations u) n =
-      take-add u.declarations n (drop (section_at declarations u) S) ∙ ap (λ (l : List ℕ). part S (section_at declarations u) u.declarations ++ take n l) (drop-drop u.declarations (section_at declarations u) S) in
-      record {
-        last = h.last;
-        tables = h.tables;
-        small = h.small;
-        sections = (λ j. record (sections_of u S) { declarations = d j })
-            ∙ (λ j. record (h.sections j) { declarations = (h.sections j).declarations ++ f j })
-            ∙ (λ j. record (sections_in s) { declarations = words_snoc s.declarations i j });
-      };
-}
+committed w n =
+    let u = w.used in
+    let apart : (T S : List ℕ) (s : State) (i : Instruction) → Spelt i (part S (end_of declarations u) n) → HeldIn u T S s → HeldIn (more declarations u n) T S (declare_alone i s) = λ T S s i e h.
+    let f = sym e in
+    let d : part S (section_at declarations u) (u.declarations + n) ≡ part S (section_at declarations u) u.declarations ++ part S (end_of declarations u) n =
+    take-add u.declarations n (drop (section_at declarations u) S) ∙ ap (λ (l : List ℕ). part S (section_at declarations u) u.declarations ++ take n l) (drop-drop u.declarations (section_at declarations u) S) in
+    record {
+      last = h.last;
+      tables = h.tables;
+      small = h.small;
+      sections = (λ j. record (sections_of u S) { declarations = d j })
+          ∙ (λ j. record (h.sections j) { declarations = (h.sections j).declarations ++ f j })
+          ∙ (λ j. record (sections_in s) { declarations = words_snoc s.declarations i j });
+    } in
+    record {
+      grown = omega arith;
+      tail = record { parts = refl; ids = λ j l. refl; tables = λ z. refl };
+      sections = refl;
+      held = apart w.tables.now w.sections.now;
+      apart = apart;
+    }

@@ -149,6 +149,10 @@ pub record HeldIn (u : Used) (T S : List ℕ) (s : State) : Type 0 where
 abbrev pub Held : Writer → State → Type 0
 Held w s = HeldIn w.used w.tables.now w.sections.now s
 
+-- its tables do, with whatever sections
+abbrev pub HeldByTables : Writer → State → Type 0
+HeldByTables w s = (S : List ℕ) × HeldIn w.used w.tables.now S s
+
 -- ---- room, and growth
 
 pub record RowsFit (c : Cost) (u : Used) (T : List ℕ) : Type 0 where

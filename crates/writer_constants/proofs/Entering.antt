@@ -14,7 +14,7 @@ use Rattle.definition.specs.Rules.{got_value, enter_value}
 use Rattle.lookup.specs.Packed.{code}
 use Rattle.writer.specs.declared.Writer.{Writer}
 use Rattle.writer.specs.Cost.{Cost}
-use Rattle.writer.specs.Held.{kind_code, SmallKind, Held}
+use Rattle.writer.specs.Held.{kind_code, SmallKind, HeldIn, Held}
 use Rattle.writer.specs.Staged.{Staged}
 use Rattle.writer.specs.Steps.{Gives, FoundBy, EnteredValue, staged}
 use Rattle.writer_constants.specs.Entered.{TypeId, EnteredFound, SplatType}
@@ -52,16 +52,20 @@ splat_some size kind x y n ex ey = record { cost = refl; is = go }
 -- ---- what was found
 
 pub found_entered : {k : Key} {kind ty id : ℕ} {w v : Writer} → TypeId k w ty → EnteredValue id ty kind w v → EnteredFound k kind id w v
-found_entered {v = v} t x = record {
+found_entered {k = k} {w = w} {v = v} t x = record {
   grown = x.grown;
+  sections = x.sections;
   held = λ o e small y h.
       let p = h.named in
-      let q = t y.state h.held in
+      let q = t y.state (w.sections.now, h.held) in
       subst (Held v) (λ j. enter_value (record { id = p j; type = q j; kind = o }) y.state) (x.held o e small y.state h.held);
+  apart = λ o e small y p S h.
+      let q = t y.state (S, h) in
+      subst (HeldIn v.used v.tables.now S) (λ j. enter_value (record { id = p j; type = q j; kind = o }) y.state) (x.apart o e small S y.state h);
 }
 
 -- a composite whose parts were put behind those in use
 pub composite_entered : {k : Key} {n : ℕ} {ps : State → List ℕ} {c : Cost} {id : ℕ} {w a b v : Writer} → Staged n ps w a → FoundBy c (composite_of k (staged n a)) a id b → EnteredFound k 0 id b v
     → (s : State) → Held w s → Held v (enter_value (got_value k None (composite_of k (ps s) s)).value (composite_of k (ps s) s).state)
-composite_entered {k = k} {ps = ps} {id = id} {b = b} p q x s h =
-    x.held None refl (omega arith) (composite_of k (ps s) s) (subst (λ (l : List ℕ). Gives (composite_of k l s) id b) (p.parts s h) (q.gives s (p.held s h)))
+composite_entered {k = k} {ps = ps} {id = id} {w = w} {b = b} p q x s h =
+    x.held None refl (omega arith) (composite_of k (ps s) s) (subst (λ (l : List ℕ). Gives (composite_of k l s) id b) (p.parts s (w.sections.now, h)) (q.gives s (p.held s h)))

@@ -18,18 +18,18 @@ use Rattle.definition.specs.Rules.{value_at}
 use Rattle.definition.specs.Unfit.{members, of_type, members_fit}
 use Rattle.writer.specs.declared.Writer.{Writer}
 use Rattle.writer.specs.declared.WrittenConstant.{WrittenConstant}
-use Rattle.writer.specs.Held.{Held}
+use Rattle.writer.specs.Held.{HeldByTables}
 use Rattle.writer.specs.Steps.{ValueAt}
 use Rattle.writer_constants.specs.Entered.{TypeId}
 use Rattle.writer_constants.specs.Fitting.{all_of, TestsEachPart, TestsParts}
 
--- of whatever state is held, two tests say the same
+-- of whatever state the tables hold, two tests say the same
 abbrev pub Alike : Writer → (State → Bool) → (State → Bool) → Type 0
-Alike w f g = (s : State) → Held w s → f s ≡ g s
+Alike w f g = (s : State) → HeldByTables w s → f s ≡ g s
 
 -- a part whose type was read, and the id that it has to be
 module _ {w : Writer} (test next : State → Bool) (want : State → ℕ) {c : ℕ} (left : Alike w test (λ s. eqb (value_at s c).type (want s) && next s))
-    {v : WrittenConstant} (read : ValueAt c w v) {id : ℕ} (is : (s : State) → Held w s → id ≡ want s) where
+    {v : WrittenConstant} (read : ValueAt c w v) {id : ℕ} (is : (s : State) → HeldByTables w s → id ≡ want s) where
   passes : v.ty ≡ id → Alike w test next
   passes e s h = left s h ∙ rw (eq-eqb _ _ (sym (read.held s h).type ∙ e ∙ is s h))
 

@@ -26,7 +26,7 @@ module _ (k : Key) (small : Small k) {key : ℕ} (ek : key ≡ packed_key k) (n 
 
   sought : (o : Option ℕ) → r ≡ o → (s : State) → Held w s → composite_of k xs s ≡ or_new_value o find k (λ t id. constant_composite t id xs) (enter_composite (composite k xs)) s
   unfolding composite_of
-  sought o e s h = ap (λ (p : Option ℕ). or_new_value p find k (λ t id. constant_composite t id xs) (enter_composite (composite k xs)) s) (sym (er (composite k xs) small ek refl s h) ∙ e)
+  sought o e s h = ap (λ (p : Option ℕ). or_new_value p find k (λ t id. constant_composite t id xs) (enter_composite (composite k xs)) s) (sym (er (composite k xs) small ek refl s (w.sections.now, h)) ∙ e)
 
   pub composite_old : (id : ℕ) → r ≡ Some id → FoundBy (composite_cost k n) (composite_of k xs) w id w
   composite_old id e = found_old (composite_cost k n) (composite_of k xs) w id (sought (Some id) e)
@@ -37,6 +37,6 @@ module _ (k : Key) (small : Small k) {key : ℕ} (ek : key ≡ packed_key k) (n 
       let still : staged n x ≡ xs = staged_still n (state_got q) ∙ staged_still n p.kept in
       let put = subst (λ (ys : List ℕ). Puts declarations (n + 3) (constant_composite t id ys) x v) still d in
       record {
-        grown = omega (arith, p.kept.grown, q.grown, d.grown, y.grown);
-        gives = gives_new (composite_of k xs) k (λ t id. constant_composite t id xs) (enter_composite (composite k xs)) (sought None e) p q put (y.held (composite k xs) small ek (staged_still n d ∙ still));
+        grown = omega (arith, p.kept.grown, q.grown, d.kept.grown, y.grown);
+        gives = gives_new (composite_of k xs) k (λ t id. constant_composite t id xs) (enter_composite (composite k xs)) (sought None e) p q put (y.held (composite k xs) small ek (staged_still n d.kept ∙ still));
       }

@@ -7,7 +7,7 @@ use Rattle.definition.specs.Sheet.{TypeEntry, Expression, Value, Alias, ZeroValu
 use Rattle.definition.specs.Rules.{got_value, enter_value, declare_constant}
 use Rattle.writer.specs.declared.Writer.{Writer}
 use Rattle.writer.specs.Cost.{Cost, an_id, a_value, a_composite, declaring, ◌⊕◌}
-use Rattle.writer.specs.Held.{kind_code, SmallKind, Held, Grown}
+use Rattle.writer.specs.Held.{kind_code, SmallKind, HeldIn, Held, HeldByTables, Grown}
 use Rattle.writer.specs.Steps.{Gives}
 use Rattle.finding.specs.Costs.{cost_of, literal_cost, null_cost}
 
@@ -37,12 +37,15 @@ FewParts (Splat n c) = Unit
 
 -- the id of a type that is entered, else 0
 abbrev pub TypeId : Key → Writer → ℕ → Type 0
-TypeId k w r = (s : State) → Held w s → r ≡ or_else 0 (id_of s k)
+TypeId k w r = (s : State) → HeldByTables w s → r ≡ or_else 0 (id_of s k)
 
 -- the constant that was found is entered, of a type with a key
 pub record EnteredFound (k : Key) (kind id : ℕ) (w v : Writer) : Type 0 where
   pub grown : Grown a_value w v
+  pub sections : v.sections.now ≡ w.sections.now
   pub held : (o : Option Kind) → kind ≡ kind_code o → SmallKind o → (x : Got) → Gives x id w → Held v (enter_value (got_value k o x).value x.state)
+  pub apart : (o : Option Kind) → kind ≡ kind_code o → SmallKind o → (x : Got) → id ≡ x.id
+      → (S : List ℕ) → HeldIn w.used w.tables.now S x.state → HeldIn v.used v.tables.now S (enter_value (got_value k o x).value x.state)
 
 -- the key of a Splat's type, from the code of its value's kind
 pub record SplatType (size kind : ℕ) (k : Key) : Type 0 where

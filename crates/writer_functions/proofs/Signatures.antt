@@ -12,7 +12,7 @@ use Rattle.definition.specs.State.{State, id_of, entry_id, entry_ids}
 use Rattle.fields.proofs.Numbers.{u16s_snoc}
 use Rattle.writer.specs.declared.Writer.{Writer}
 use Rattle.writer.specs.Cost.{staging}
-use Rattle.writer.specs.Held.{Held, RoomIn}
+use Rattle.writer.specs.Held.{HeldByTables, RoomIn}
 use Rattle.writer.specs.Staged.{Staged}
 use Rattle.writer.specs.Steps.{with_part}
 use Rattle.writer.proofs.Staged.{staged_none, staged_more}
@@ -31,7 +31,7 @@ unfolding u16s_at entry_ids
 signature_none b res w room = staged_more (staged_none w) room res (λ s. res) (λ s h. refl)
 
 pub signature_more : (b : List ℕ) (res i : ℕ) {w v : Writer} → Staged (i + 1) (signature b res i) w v → RoomIn (staging (i + 1 + 1)) w
-    → (x : ℕ) → ((s : State) → Held v s → x ≡ or_else 0 (id_of s (entry (u16_at b (3 + 2 * i))))) → Staged (i + 1 + 1) (signature b res (i + 1)) w (with_part (i + 1) x v)
+    → (x : ℕ) → ((s : State) → HeldByTables v s → x ≡ or_else 0 (id_of s (entry (u16_at b (3 + 2 * i))))) → Staged (i + 1 + 1) (signature b res (i + 1)) w (with_part (i + 1) x v)
 signature_more b res i {w = w} {v = v} q room x e =
     let t = u16_at b (3 + 2 * i) in
     let one : (s : State) → entry_ids s (u16s_at b 3 i) ++ entry_id s t ∷ [] ≡ entry_ids s (u16s_at b 3 (i + 1)) =

@@ -25,14 +25,14 @@ module _ (x : Composite) (small : SmallComposite x) (write : ℕ → Instruction
     (r : Option ℕ) (er : FindsComposite key n w r) where
   sought : (o : Option ℕ) → r ≡ o → (s : State) → Held w s → shared_type x write s ≡ or_new_type o x write s
   unfolding shared_type
-  sought o e s h = ap (λ (p : Option ℕ). or_new_type p x write s) (sym (er x small ek ep s h) ∙ e)
+  sought o e s h = ap (λ (p : Option ℕ). or_new_type p x write s) (sym (er x small ek ep s (w.sections.now, h)) ∙ e)
 
   pub shared_old : (c : Cost) (id : ℕ) → r ≡ Some id → FoundBy c (shared_type x write) w id w
   shared_old c id e = found_old c (shared_type x write) w id (sought (Some id) e)
 
   pub shared_new : r ≡ None → {id k : ℕ} {m v u : Writer} → Took w id m → Puts declarations k (write id) m v → EnteredComposite key n id v u → FoundBy (an_id ⊕ declaring k ⊕ a_composite n) (shared_type x write) w id u
   shared_new e {id = id} {u = u} p d y =
-      let k = in_turn p.kept d in
+      let k = in_turn p.kept d.kept in
       record {
         grown = omega (arith, k.grown, y.grown);
         gives = λ s h.
@@ -47,12 +47,12 @@ pub record_written : (b : List ℕ) {w v u x : Writer} {res id : ℕ} → FoundB
     → FoundBy (signature_cost (u8_at b 2 + 1)) (shared_type (function (staged (u8_at b 2 + 1) u)) (λ i. type_function i (staged (u8_at b 2 + 1) u))) u id x
     → FunctionWritten (function_cost (u8_at b 2)) (function_fields b).value w x
 unfolding function_fields declare_function
-record_written b {x = x} p q y = record {
+record_written b {v = v} {x = x} p q y = record {
   grown = omega (arith, p.grown, staged_grown q, y.grown);
   held = λ s h.
       let r = result_of (init_of (u16_at b 0)) s in
       let a = p.gives s h in
       let ps = entry_ids r.state (u16s_at b 3 (u8_at b 2)) in
-      let ids = q.parts r.state a.held ∙ ap (λ (i : ℕ). i ∷ ps) a.named in
+      let ids = q.parts r.state (v.sections.now, a.held) ∙ ap (λ (i : ℕ). i ∷ ps) a.named in
       subst (λ (xs : List ℕ). Held x (shared_type (function xs) (λ i. type_function i xs) r.state).state) ids (y.gives r.state (q.held r.state a.held)).held;
 }

@@ -44,7 +44,7 @@ module _ (debug : Bool) (id : ℕ) (b : List ℕ) where
       unfolding name_at
       labelled p =
           let n : name_at b 0 ≡ Some bs = rw (ne_eqb (u8_at b 0) 255 is_number) (ap Some (sym (eb ∙ ap (λ (i : ℕ). take i (drop 1 b)) ek))) in
-          kept_as p (omega (arith, short)) (λ s h. sym (λ j. label_if (e j) (name id) (n j) s))
+          kept_as p.kept (omega (arith, short)) (λ s h. sym (λ j. label_if (e j) (name id) (n j) s))
 
 -- ---- Block on the base
 

@@ -82,8 +82,8 @@ declared o ts rs b g {id = id} p₀ q₁ {a = a} ea q₂ q₃ y ey q₄ {base = 
     let before = in_turn (in_turn (in_turn p₀.kept q₁) q₂) q₃ in
     let based = before.grown ▹ q₄.grown ▹ q₅.grown in
     record {
-      grown = based ▹ q₆.grown ▹ q₇.grown;
-      tail = tail_within (omega arith) (tail_then based (tail_then (before.grown ▹ q₄.grown) (tail_then before.grown before.tail q₄.tail) q₅.tail) (tail_then q₆.grown q₆.tail q₇.tail));
+      grown = based ▹ q₆.grown ▹ q₇.kept.grown;
+      tail = tail_within (omega arith) (tail_then based (tail_then (before.grown ▹ q₄.grown) (tail_then before.grown before.tail q₄.tail) q₅.tail) (tail_then q₆.grown q₆.tail q₇.kept.tail));
       held = λ d et er s h.
           let ei = named_next p₀ s h in
           let s₃ = binding_decorated g.binding id (decorate_access a id (label_if o.debug (name id) (name_at b 0) (take_id s))) in
@@ -97,7 +97,7 @@ declared o ts rs b g {id = id} p₀ q₁ {a = a} ea q₂ q₃ y ey q₄ {base = 
           ((λ j. declare_alone (variable (k.named j) id class (i.named j)) x.state)
           ∙ (λ j. run o b g s (ei j) (ea j) (e₃ j) (e₄ j) (eb j) (en j) (ec j))
           ∙ is_ruled o b g s d ts rs et er)
-          (q₇.held x.state i.held);
+          (q₇.kept.held x.state i.held);
     }
 
 -- ---- of a record's body

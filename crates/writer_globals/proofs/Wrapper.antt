@@ -30,7 +30,7 @@ pub wrapper : (t class : ℕ) (o : Option ℕ) {w v : Writer} {id : ℕ} → Too
     → {u : Writer} → Puts declarations 4 (type_pointer m class id) n u → GotBy wrapper_cost (wrap_in o t class) w m u
 wrapper t class o {id = i} p q₁ q₃ {f = f} q₄ q₅ {m = m} p₂ {u = u} q₆ =
     let before = in_turn (in_turn p.kept q₁) q₃ in
-    let after = in_turn (in_turn q₅ p₂.kept) q₆ in
+    let after = in_turn (in_turn q₅.kept p₂.kept) q₆.kept in
     record {
       grown = omega (arith, before.grown, q₄.grown, after.grown);
       tail = tail_within (omega arith) (tail_then before.grown before.tail (tail_then q₄.grown q₄.tail after.tail));
@@ -39,7 +39,7 @@ wrapper t class o {id = i} p q₁ q₃ {f = f} q₄ q₅ {m = m} p₂ {u = u} q�
           let A : ℕ → State = λ i. stride_member o i 0 (annotate (member_decorate i 0 DecorationOffset (0 ∷ [])) (annotate (block i) (take_id s))) in
           let F : ℕ → Got = λ i. find (entry t) (A i) in
           let g = q₄.gives (A i) (before.held s h) in
-          let em : m ≡ suc (F i).state.last = p₂.named ∙ ap suc (q₅.held (F i).state g.held).last in
+          let em : m ≡ suc (F i).state.last = p₂.named ∙ ap suc (q₅.kept.held (F i).state g.held).last in
           record {
             named = em ∙ ap (λ (k : ℕ). suc (F k).state.last) ei;
             held = subst (Held u)

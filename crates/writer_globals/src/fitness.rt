@@ -9,7 +9,7 @@ ghost use Rattle.records.specs.Places.{types_in};
 ghost use Rattle.zeroable.specs.Memo.{Memo};
 ghost use Rattle.entries.specs.Globals.{global_of, bound_number};
 ghost use Rattle.writer.specs.Cost.{no_cost};
-ghost use Rattle.writer.specs.Held.{Held, RoomIn};
+ghost use Rattle.writer.specs.Held.{HeldByTables, RoomIn};
 ghost use Rattle.writer_globals.specs.Fitness.{TestsGlobal};
 
 use entries::globals::{GlobalVariable, ResourceBinding};
@@ -45,7 +45,7 @@ fn is_zeroed(space: AddressSpace) -> bool
 // An init is of a Private global, and of its type's id.
 fn init_fits(w: &Writer<'_, '_>, init: Option<u16>, space: AddressSpace, ty: u16) -> bool
     requires { RoomIn no_cost w.now }
-    ensures { (s : State) → Held w.now s → (g : Global) → g.space ≡ space_number space → g.type ≡ ty → result ≡ init_fits s g init }
+    ensures { (s : State) → HeldByTables w.now s → (g : Global) → g.space ≡ space_number space → g.type ≡ ty → result ≡ init_fits s g init }
 {
     match init {
         None => true,

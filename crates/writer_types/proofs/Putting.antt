@@ -17,7 +17,7 @@ use Rattle.spirv.specs.Ids.{low}
 use Rattle.writer.specs.Rows.{part}
 use Rattle.writer.specs.Regions.{section_at, declarations}
 use Rattle.writer.specs.Cost.{no_cost}
-use Rattle.writer.specs.Held.{Held}
+use Rattle.writer.specs.Held.{Held, HeldByTables}
 use Rattle.writer.specs.Steps.{Kept, Pending, Committed}
 use Rattle.writer.proofs.Turns.{tail_then, tail_within, in_turn}
 use Rattle.writer_types.specs.Members.{ids_in, StructPut}
@@ -51,7 +51,7 @@ module _ {id : ℕ} {all : List Member} {w : Writer} where
   }
 
   module _ {v : Writer} {i : ℕ} {left : List Member} (h : Putting id all w v left i) where
-    pub next : {m : Member} {ms : List Member} → left ≡ m ∷ ms → {x y j k : ℕ} → ((s : State) → Held v s → x ≡ or_else 0 (id_of s (entry m.type)))
+    pub next : {m : Member} {ms : List Member} → left ≡ m ∷ ms → {x y j k : ℕ} → ((s : State) → HeldByTables v s → x ≡ or_else 0 (id_of s (entry m.type)))
         → y ≡ low x → j ≡ i → k ≡ i + 1 → {u : Writer} → Pending (j + 2) (y ∷ []) v u → Putting id all w u ms k
     next {m = m} {ms = ms} e {x = x} {y = y} {j = j} {k = k} ex ey ej ek {u = u} d =
         let g : Putting id all w v (m ∷ ms) i = rw e at h in
@@ -60,7 +60,7 @@ module _ {id : ℕ} {all : List Member} {w : Writer} where
           kept = in_turn g.kept (pending_kept d);
           put = λ s h.
               let rest = map low (ids_in s ms) in
-              let n : y ≡ low (or_else 0 (id_of s (entry m.type))) = ey ∙ ap low (ex s (g.kept.held s h)) in
+              let n : y ≡ low (or_else 0 (id_of s (entry m.type))) = ey ∙ ap low (ex s (v.sections.now, g.kept.held s h)) in
               let e : k + 2 ≡ j + 2 + 1 = omega arith in
               ap (λ (z : ℕ). waiting u z ++ rest) e
               ∙ ap (λ (z : List ℕ). z ++ rest) d.more

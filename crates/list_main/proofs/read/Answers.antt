@@ -3,7 +3,7 @@ use native.Mathlib.Omega.{arith}
 use lib.ListN.{length, length-set}
 use Rattle.std.proofs.Common.{rules, option_copied}
 use Rattle.list_main.specs.Answers.{at_most}
-use Rattle.list_main.proofs.Reading.{piece_more, piece_breaks, piece_short}
+use Rattle.list_main.proofs.Reading.{over, piece_more, piece_breaks, piece_short}
 use Rattle.list_main.proofs.read.Goals as goal
 
 pub returns-in_err-words : goal.returns-in_err-words
@@ -35,3 +35,8 @@ returns-else-is_empty g c =
     let k = length c.args.words.now in
     ap (at_most k)
     (piece_short g.row.BYTES g.F.Form.words c.args.input.now l.words l.n l.rest.now l.invariant.0 g.met.F.Form.counted (search rules) c.in_default.ensures.cases)
+
+pub returns-then-saturating_mul-input : goal.returns-then-saturating_mul-input
+returns-then-saturating_mul-input g c =
+    let a = c.args in
+    over g.row.BYTES g.F.Form.words g.met.F.Form.counted a.input.now (length a.words.now) (omega (arith, c.saturating_mul.ensures, c.if-saturating_mul-input.true, c.well_formed))

@@ -5,7 +5,6 @@ use mathlib.Core.Bool.{false}
 use mathlib.Core.Path.{◌≡◌, ap, sym, ◌∙◌}
 use native.Mathlib.Omega.{arith}
 use lib.ListN.{length, get_or, drop}
-use borrow.Author.Rules.{rules}
 use Rattle.definition.specs.Tests.{type_read, same_record}
 use Rattle.definition.specs.Sheet.{Record, record_at}
 use Rattle.records.specs.Places.{types_in, type_from, record_from}
@@ -51,15 +50,15 @@ returns-in_default c =
     c.entries.invariant.1.0 ∙ sym (reached a.types a.hashes.now (record_of a.t a.b.now) a.hash c.entries.from (length a.hashes.now) c.requires c.entries.invariant.0 (omega arith) c.in_default.ensures c.entries.invariant.1.1
     ∙ none_left (search-types a.types.sheet.now (record_of a.t a.b.now)) a.types.places.now (length a.hashes.now) (omega (arith, c.requires.0.long)))
 
-pub entries-preserved-then-ne : goal.entries-preserved-then-ne
-entries-preserved-then-ne c =
+pub entries-preserved-then-not-same_body : goal.entries-preserved-then-not-same_body
+entries-preserved-then-not-same_body c =
     let a = c.args in
     let f = c.in-Some.ensures in (
       omega (arith, f.1.0),
       (
         c.entries.invariant.1.0,
         passed a.types a.hashes.now (record_of a.t a.b.now) a.hash c.entries.from c.in-Some.i c.requires f.0 f.1 c.entries.invariant.1.1
-            (other _ _ _ (record_of a.t a.b.now) c.body_of-e.ensures c.rest_at-rest.ensures (search rules)),
+            (other _ _ _ (record_of a.t a.b.now) c.body_of-e.ensures c.rest_at-rest.ensures (c.same_body.ensures.other c.if-not-same_body.true)),
       ),
     )
 
@@ -70,4 +69,4 @@ returns-after-loop-p c =
     sym (reached a.types a.hashes.now (record_of a.t a.b.now) a.hash c.entries.from c.in-Some.i c.requires f.0 (omega (arith, f.1.0)) f.1.1 c.entries.invariant.1.1
     ∙ hit (search-types a.types.sheet.now (record_of a.t a.b.now)) a.types.places.now c.in-Some.i (omega (arith, f.1.0, c.requires.0.long))
     (same _ (record_of a.t a.b.now) (sym (c.tag_of.ensures ∙ ap (λ r. (record_at r).tag) c.rest_at-rest.ensures) ∙ c.if-tag_of-t.false)
-    (sym (c.body_of-e.ensures ∙ ap (λ r. (record_at r).body) c.rest_at-rest.ensures) ∙ (search rules))))
+    (sym (c.body_of-e.ensures ∙ ap (λ r. (record_at r).body) c.rest_at-rest.ensures) ∙ c.same_body.ensures.same c.if-not-same_body.false)))

@@ -37,7 +37,7 @@ returns-in-Constant c =
     rw e.is (record {
       grown = x.ensures.grown;
       held = λ s h.
-          let i = c.value_at-v.ensures.held s h in
+          let i = c.value_at-v.ensures.held s (c.args.w.now.sections.now, h) in
           let a = i.id in
           let b = i.type in
           subst (Held x.new.self) (λ j. enter_value (record { id = a j; type = b j; kind = (value_at s e.c).kind }) s) (x.ensures.held (value_at s e.c).kind i.kind i.small s h);
@@ -83,7 +83,7 @@ returns-in-Splat c =
     rw e.is (record {
       grown = omega (arith, staged_grown p, rw t.cost at g.grown, x.ensures.grown);
       held = λ s h.
-          let i = c.value_at-v-in-Splat.ensures.held s h in
+          let i = c.value_at-v-in-Splat.ensures.held s (c.args.w.now.sections.now, h) in
           let k = t.is (value_at s e.value).kind i.kind i.small in
           let q = i.id in
           subst (Held x.new.w) (λ j. enter_value (got_value (k j) None (composite_of (k j) (replicate e.size (q j)) s)).value (composite_of (k j) (replicate e.size (q j)) s).state)
