@@ -17,8 +17,8 @@ use Rattle.writer.specs.declared.Writer.{Writer}
 use Rattle.writer.specs.Regions.{declarations}
 use Rattle.writer.specs.Cost.{a_type, a_literal, listing_cost}
 use Rattle.writer.specs.Held.{Held}
-use Rattle.writer.specs.Steps.{Kept, Gives, GotBy, Took, FindsType, FindsLiteral, FindsNull, EnteredType, EnteredLiteral, EnteredNull, note_literal, note_null, Puts, listing}
-use Rattle.writer.proofs.Turns.{named_next, in_turn, kept_as, got_as, under_id, state_got, got_then, got_old}
+use Rattle.writer.specs.Steps.{Kept, Added, Gives, GotBy, Took, FindsType, FindsLiteral, FindsNull, EnteredType, EnteredLiteral, EnteredNull, note_literal, note_null, Puts, listing}
+use Rattle.writer.proofs.Turns.{named_next, in_turn, kept_as, added_then, added_as, got_as, under_id, state_got, got_then, got_old}
 use Rattle.finding.specs.Costs.{longer, declared_cost, cost_of, literal_cost, null_cost}
 use Rattle.finding.specs.Found.{find_below, shape_declared, ShapePut}
 use Rattle.finding.proofs.Prices.{inner_rank, inner_price, sized_rank, sized_price}
@@ -38,8 +38,8 @@ declared_listed i a b cs e s =
     λ j. record { last = s.last; types = s.types; constants = s.constants; capabilities = q j; names = s.names; annotations = s.annotations; declarations = s.declarations ++ i ∷ [] }
 
 pub put_declared : (l : Shape) (id x y : ℕ) (a b : List ℕ) → a ++ b ≡ capabilities_of l → {w u m v : Writer}
-    → Kept (listing_cost 1) (listing a) w u → Kept (listing_cost 1) (listing b) u m → Puts declarations (4 + longer l) (type_of l id x y) m v → ShapePut l id x y w v
-put_declared l id x y a b e p q d = kept_as (in_turn (in_turn p q) d.kept) (omega arith) (λ s h. declared_listed (type_of l id x y) a b (capabilities_of l) e s)
+    → Added (listing_cost 1) (listing a) w u → Added (listing_cost 1) (listing b) u m → Puts declarations (4 + longer l) (type_of l id x y) m v → ShapePut l id x y w v
+put_declared l id x y a b e p q d = added_as (added_then (added_then p q) d) (omega arith) (declared_listed (type_of l id x y) a b (capabilities_of l) e)
 
 -- ---- finding a shape
 
@@ -87,13 +87,13 @@ module _ (l : Shape) (id : ℕ) {w : Writer} (k : Key) (e : inner l ≡ Some k) 
 
   pub declared_inner : sized l ≡ None → {v : Writer} → ShapePut l id x 0 u v → Kept (declared_cost l) (shape_declared l id) w v
   unfolding find
-  declared_inner eq p = kept_as (got_then (λ x s. declare_with (capabilities_of l) (type_of l id x 0) s) g p) (inner_price l k e) (λ s h. sym (one_deeper None eq s))
+  declared_inner eq p = kept_as (got_then (λ x s. declare_with (capabilities_of l) (type_of l id x 0) s) g p.kept) (inner_price l k e) (λ s h. sym (one_deeper None eq s))
 
   pub declared_sized : (n : ℕ) → sized l ≡ Some n → {y : ℕ} {a v : Writer} → GotBy literal_cost (literal (u32 n)) u y a → ShapePut l id x y a v → Kept (declared_cost l) (shape_declared l id) w v
   unfolding find
   declared_sized n eq m p =
       let z : rank k ≡ 0 = omega (arith, inner_rank l k e, sized_rank l n eq) in
-      kept_as (in_turn (in_turn (state_got g) (state_got m)) p) (sized_price l n k e eq)
+      kept_as (in_turn (in_turn (state_got g) (state_got m)) p.kept) (sized_price l n k e eq)
       (λ s h.
       let t = find k s in
       let a = g.gives s h in

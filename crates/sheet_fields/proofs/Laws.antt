@@ -1,14 +1,20 @@
 -- Small laws on tests, and which records have a form.
-use Prim.Native.Nat.{ℕ}
-use mathlib.Core.Path.{◌≡◌, refl, ap}
+use Prim.Native.Nat.{ℕ, zero, suc}
+use mathlib.Core.Path.{◌≡◌, refl, sym, ap, ◌∙◌}
 use mathlib.Core.Bool.{Bool, true, false, ◌&&◌}
-use borrow.Author.Tests.{eqb-true}
+use native.Mathlib.Omega.{arith}
+use borrow.Author.Tests.{ne_eqb, lt-leb, eqb-true}
 use lib.Dec.{eqb, leb}
 use mathlib.Core.List.{List}
 use Rattle.definition.specs.Choice.{pick, unless}
 use Rattle.definition.specs.Sheet.{form_of, tag_rank}
 use Rattle.definition.specs.Tests.{form_known}
 use Rattle.sheet_fields.specs.Fields.{record_of}
+
+-- only 0 is at most 0
+pub leb_zero : (a : ℕ) → leb a 0 ≡ eqb a 0
+leb_zero zero = refl
+leb_zero (suc a) = lt-leb (suc a) 0 (omega arith) ∙ sym (ne_eqb (suc a) 0 (λ e. omega (arith, e)))
 
 -- a test of two things is a test of each
 pub unless_both : (a b : Bool) (n x : ℕ) → unless (a && b) n x ≡ unless a n (unless b n x)

@@ -2,12 +2,14 @@
 -- state, and ids that are found. A call may be told under another name, where it costs no less and does the same.
 use Prim.Native.Nat.{ℕ, suc, ◌≤◌}
 use mathlib.Core.Path.{◌≡◌, refl, sym, ap, ◌∙◌, subst}
+use mathlib.Core.List.{List}
 use native.Mathlib.Omega.{arith}
 use Rattle.definition.specs.State.{State, Got, got}
+use Rattle.writer.specs.declared.Used.{Used}
 use Rattle.writer.specs.declared.Writer.{Writer}
-use Rattle.writer.specs.Cost.{Cost, ◌⊕◌}
-use Rattle.writer.specs.Held.{Held, Room, Grown}
-use Rattle.writer.specs.Steps.{Tail, Kept, Added, Gives, GotBy, FoundBy, Took}
+use Rattle.writer.specs.Cost.{Cost, ◌⊕◌, listing_cost}
+use Rattle.writer.specs.Held.{HeldIn, Held, RoomFor, Room, Grown}
+use Rattle.writer.specs.Steps.{Tail, Kept, Added, Gives, GotBy, FoundBy, Took, Listed, listing}
 
 -- no part of a cost is more than the other's
 pub record AtMost (c d : Cost) : Type 0 where
@@ -62,8 +64,18 @@ added_still c w = record { kept = still c w (λ s. refl); apart = λ T s h. h }
 pub added_then : {c d : Cost} {f g : State → State} {w v u : Writer} → Added c f w v → Added d g v u → Added (c ⊕ d) (λ s. g (f s)) w u
 added_then {f = f} p q = record { kept = in_turn p.kept q.kept; apart = λ T s h. q.apart T (f s) (p.apart T s h) }
 
+pub added_as : {c d : Cost} {f g : State → State} {w v : Writer} → Added c f w v → AtMost c d → ((s : State) → f s ≡ g s) → Added d g w v
+added_as {v = v} p m e = record { kept = kept_as p.kept m (λ s h. e s); apart = λ T s h. subst (HeldIn v.used T v.sections.now) (e s) (p.apart T s h) }
+
 pub added_within : {c d : Cost} {f : State → State} {w v : Writer} → Added c f w v → AtMost c d → Added d f w v
-added_within p m = record { kept = kept_as p.kept m (λ s h. refl); apart = p.apart }
+added_within p m = added_as p m (λ s. refl)
+
+-- a capability that is listed, where there is room for it
+pub listed_added : {cs : List ℕ} {w v : Writer} → Listed cs w v → RoomFor (listing_cost 1) w → Added (listing_cost 1) (listing cs) w v
+listed_added {cs = cs} {w = w} {v = v} l room = record {
+  kept = l.kept room;
+  apart = λ T s h. subst (λ (u : Used). HeldIn u T v.sections.now (listing cs s)) (sym l.used) (l.apart w.used refl room T s h);
+}
 
 -- ---- ids
 

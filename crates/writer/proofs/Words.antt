@@ -1,7 +1,7 @@
 -- Words put behind those of a section, and capabilities listed. One law for every section: the state's words are those it had and
 -- the instruction's behind them, and tables and other sections stay; each kind of instruction is then an instance.
 use Prim.Native.Nat.{ℕ, zero, suc, ◌+◌, ◌≤◌, ◌<◌}
-use mathlib.Core.Path.{◌≡◌, refl, sym, ap, ◌∙◌}
+use mathlib.Core.Path.{◌≡◌, refl, sym, ap, ◌∙◌, subst}
 use mathlib.Core.Bool.{Bool, true, false, ◌||◌}
 use mathlib.Core.List.{List, [], ◌∷◌, ◌++◌, append_assoc, append-nil, map}
 use native.Mathlib.Omega.{arith}
@@ -191,44 +191,43 @@ new c xs e = ap (λ (n : ℕ). list_one n c xs) (count xs e)
 pub same_lent : (w : Writer) → SameLent w w
 same_lent w = record { tables = refl; sections = refl; tables_long = refl; sections_long = refl }
 
+-- the numbers in use, written with a count of capabilities that is theirs
+counted : (u : Used) {n : ℕ} → u.capabilities ≡ n → {T S : List ℕ} {s : State} → HeldIn u T S s → HeldIn (record u { capabilities = n }) T S s
+counted u q {T = T} {S = S} {s = s} h = subst (λ (m : ℕ). HeldIn (record u { capabilities = m }) T S s) q h
+
 pub lists_none : (w : Writer) → Listed [] w w
 unfolding listed
-lists_none w = record { few = omega arith; used = refl; lent = same_lent w; tables = refl; kept = λ room. record { grown = omega arith; tail = record { parts = refl; ids = λ j l. refl; tables = λ z. refl }; held = λ s h. h }; apart = λ room T s h. h }
+lists_none w = record {
+  few = omega arith;
+  used = refl;
+  lent = same_lent w;
+  tables = refl;
+  kept = λ room. record { grown = omega arith; tail = record { parts = refl; ids = λ j l. refl; tables = λ z. refl }; held = λ s h. h };
+  apart = λ u q room T s h. counted u q h;
+}
 
-module _ (w : Writer) (c : ℕ) where
+module _ (S : List ℕ) (c : ℕ) where
   -- what the definition makes of the state's capabilities
-  lists : (b : Bool) → is_listed c (part w.sections.now 0 w.used.capabilities) ≡ b → {T : List ℕ} (s : State) → HeldIn w.used T w.sections.now s → is_listed c s.capabilities ≡ b
-  lists b e s h = sym (ap (λ (t : Sections). is_listed c t.capabilities) h.sections) ∙ e
+  lists : (b : Bool) (u : Used) → is_listed c (part S 0 u.capabilities) ≡ b → {T : List ℕ} (s : State) → HeldIn u T S s → is_listed c s.capabilities ≡ b
+  lists b u e s h = sym (ap (λ (t : Sections). is_listed c t.capabilities) h.sections) ∙ e
 
-  pub lists_old : is_listed c (part w.sections.now 0 w.used.capabilities) ≡ true → Listed (c ∷ []) w w
+  old_held : (u : Used) → is_listed c (part S 0 u.capabilities) ≡ true → (T : List ℕ) (s : State) → HeldIn u T S s → HeldIn u T S (listing (c ∷ []) s)
   unfolding listed
-  lists_old e =
-      let apart : (T : List ℕ) (s : State) → HeldIn w.used T w.sections.now s → HeldIn w.used T w.sections.now (listing (c ∷ []) s) = λ T s h.
-      let q : s.capabilities ≡ list_one (occurrences c s.capabilities) c s.capabilities = sym (old c s.capabilities (lists true e s h)) in
+  old_held u e T s h =
+      let q : s.capabilities ≡ list_one (occurrences c s.capabilities) c s.capabilities = sym (old c s.capabilities (lists true u e s h)) in
       record {
         last = h.last;
         tables = h.tables;
         small = h.small;
         sections = h.sections ∙ (λ i. record (sections_in s) { capabilities = q i });
-      } in
-      record {
-        few = omega arith;
-        used = refl;
-        lent = same_lent w;
-        tables = refl;
-        kept = λ room. record { grown = omega arith; tail = record { parts = refl; ids = λ j l. refl; tables = λ z. refl }; held = apart w.tables.now };
-        apart = λ room. apart;
       }
 
-  pub lists_new : is_listed c (part w.sections.now 0 w.used.capabilities) ≡ false
-      → Listed (c ∷ []) w (record w { used = record w.used { capabilities = w.used.capabilities + 1 }; sections = record w.sections { now = set w.sections.now w.used.capabilities c } })
+  new_held : (u : Used) → is_listed c (part S 0 u.capabilities) ≡ false → WordsFit (listing_cost 1) u S → (T : List ℕ) (s : State) → HeldIn u T S s
+      → HeldIn (record u { capabilities = u.capabilities + 1 }) T (set S u.capabilities c) (listing (c ∷ []) s)
   unfolding listed
-  lists_new e =
-      let u = w.used in
-      let S = w.sections.now in
+  new_held u e room T s h =
       let p = u.capabilities in
       let ws = c ∷ [] in
-      let apart : RoomFor (listing_cost 1) w → (T : List ℕ) (s : State) → HeldIn u T S s → HeldIn (record u { capabilities = p + 1 }) T (set S p c) (listing (c ∷ []) s) = λ room T s h.
       let inside : p + 1 ≤ length S = omega arith in
       let put : set S p c ≡ splice S p ws = sets-eq ws S p inside in
       let f : sections_of (record u { capabilities = p + 1 }) (splice S p ws) ≡ record (sections_of u S) { capabilities = (sections_of u S).capabilities ++ ws } = λ i. record {
@@ -237,7 +236,7 @@ module _ (w : Writer) (c : ℕ) where
         annotations = part_right S p ws inside (section_at annotations u) u.annotations (omega arith) i;
         declarations = part_right S p ws inside (section_at declarations u) u.declarations (omega arith) i;
       } in
-      let q : s.capabilities ++ ws ≡ list_one (occurrences c s.capabilities) c s.capabilities = sym (new c s.capabilities (lists false e s h)) in
+      let q : s.capabilities ++ ws ≡ list_one (occurrences c s.capabilities) c s.capabilities = sym (new c s.capabilities (lists false u e s h)) in
       record {
         last = h.last;
         tables = h.tables;
@@ -245,19 +244,37 @@ module _ (w : Writer) (c : ℕ) where
         sections = ap (sections_of (record u { capabilities = p + 1 })) put ∙ f
             ∙ ap (λ (t : Sections). record t { capabilities = t.capabilities ++ ws }) h.sections
             ∙ (λ i. record (sections_in s) { capabilities = q i });
-      } in
-      record {
-        few = omega arith;
-        used = refl;
-        lent = record { tables = refl; sections = refl; tables_long = refl; sections_long = length-set S p c };
-        tables = refl;
-        kept = λ room. record {
-          grown = omega (arith, length-set {A = ℕ});
-          tail = record { parts = refl; ids = λ j l. refl; tables = λ z. refl };
-          held = apart room w.tables.now;
-        };
-        apart = apart;
       }
+
+module _ (w : Writer) (c : ℕ) where
+  -- numbers in use with as many capabilities as the writer's
+  abbrev alike : Used → Used
+  alike u = record u { capabilities = w.used.capabilities }
+
+  pub lists_old : is_listed c (part w.sections.now 0 w.used.capabilities) ≡ true → Listed (c ∷ []) w w
+  lists_old e = record {
+    few = omega arith;
+    used = refl;
+    lent = same_lent w;
+    tables = refl;
+    kept = λ room. record { grown = omega arith; tail = record { parts = refl; ids = λ j l. refl; tables = λ z. refl }; held = old_held w.sections.now c w.used e w.tables.now };
+    apart = λ u q room T s h. old_held w.sections.now c (alike u) e T s (counted u q h);
+  }
+
+  pub lists_new : is_listed c (part w.sections.now 0 w.used.capabilities) ≡ false
+      → Listed (c ∷ []) w (record w { used = record w.used { capabilities = w.used.capabilities + 1 }; sections = record w.sections { now = set w.sections.now w.used.capabilities c } })
+  lists_new e = record {
+    few = omega arith;
+    used = refl;
+    lent = record { tables = refl; sections = refl; tables_long = refl; sections_long = length-set w.sections.now w.used.capabilities c };
+    tables = refl;
+    kept = λ room. record {
+      grown = omega (arith, length-set {A = ℕ});
+      tail = record { parts = refl; ids = λ j l. refl; tables = λ z. refl };
+      held = new_held w.sections.now c w.used e room w.tables.now;
+    };
+    apart = λ u q room T s h. new_held w.sections.now c (alike u) e (omega (arith, q, room)) T s (counted u q h);
+  }
 
 -- ---- an instruction word by word
 

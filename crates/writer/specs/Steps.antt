@@ -23,7 +23,7 @@ use Rattle.spirv.specs.Sections.{splice}
 use Rattle.writer.specs.Rows.{part}
 use Rattle.writer.specs.Regions.{values_at, parts_at, section_at, Section, names, annotations, declarations, add_to}
 use Rattle.writer.specs.Cost.{Cost, rows_of, listing_cost, an_id, a_type, a_literal, a_null, a_value, a_composite, declaring, section_words}
-use Rattle.writer.specs.Held.{kind_code, SmallKind, HeldIn, Held, HeldByTables, RoomFor, SameLent, Grown, SmallComposite, composite_key, parts_of_c}
+use Rattle.writer.specs.Held.{kind_code, SmallKind, HeldIn, Held, HeldByTables, WordsFit, RoomFor, SameLent, Grown, SmallComposite, composite_key, parts_of_c}
 
 -- nothing is in use
 abbrev pub none_used : ℕ → ℕ → ℕ → Used
@@ -225,11 +225,13 @@ FindsBlock id w r = (s : State) → HeldByTables w s → r ≡ among id (blocked
 abbrev pub listing : List ℕ → State → State
 listing cs s = record { last = s.last; types = s.types; constants = s.constants; capabilities = listed cs s.capabilities; names = s.names; annotations = s.annotations; declarations = s.declarations }
 
--- one is listed at most, and nothing but their count is another, whatever room there is; what is held stays held whatever the tables are
+-- one is listed at most, and nothing but their count is another, whatever room there is; what is held stays held whatever the tables
+-- are, and by any numbers in use that have as many capabilities as the writer's (`apart`)
 pub record Listed (cs : List ℕ) (w v : Writer) : Type 0 where
   pub few : v.used.capabilities ≤ w.used.capabilities + 1
   pub used : v.used ≡ record w.used { capabilities = v.used.capabilities }
   pub lent : SameLent w v
   pub tables : v.tables.now ≡ w.tables.now
   pub kept : RoomFor (listing_cost 1) w → Kept (listing_cost 1) (listing cs) w v
-  pub apart : RoomFor (listing_cost 1) w → (T : List ℕ) (s : State) → HeldIn w.used T w.sections.now s → HeldIn v.used T v.sections.now (listing cs s)
+  pub apart : (u : Used) → u.capabilities ≡ w.used.capabilities → WordsFit (listing_cost 1) u w.sections.now
+      → (T : List ℕ) (s : State) → HeldIn u T w.sections.now s → HeldIn (record u { capabilities = v.used.capabilities }) T v.sections.now (listing cs s)

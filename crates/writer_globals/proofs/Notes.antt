@@ -16,8 +16,8 @@ use Rattle.definition.specs.Rules.{label_if, block_base, block_once}
 use Rattle.writer.specs.declared.Writer.{Writer}
 use Rattle.writer.specs.Regions.{names}
 use Rattle.writer.specs.Cost.{no_cost, naming, a_block}
-use Rattle.writer.specs.Steps.{Kept, GotBy, Puts}
-use Rattle.writer.proofs.Turns.{kept_as, got_then}
+use Rattle.writer.specs.Steps.{Kept, Added, GotBy, Puts}
+use Rattle.writer.proofs.Turns.{kept_as, added_as, got_then}
 
 module _ (debug : Bool) (id : ℕ) (b : List ℕ) where
   module _ (e : debug ≡ true) {k : ℕ} (ek : k ≡ u8_at b 0) where
@@ -40,11 +40,11 @@ module _ (debug : Bool) (id : ℕ) (b : List ℕ) where
           let n : name_end b 0 ≡ 0 + 1 + u8_at b 0 = rw (ne_eqb (u8_at b 0) 255 is_number) in
           (omega arith, omega arith)
 
-      pub labelled : {w v : Writer} → Puts names (length bs + 3) (name id bs) w v → Kept (naming (name_end b 0 + 2)) (label_if debug (name id) (name_at b 0)) w v
+      pub labelled : {w v : Writer} → Puts names (length bs + 3) (name id bs) w v → Added (naming (name_end b 0 + 2)) (label_if debug (name id) (name_at b 0)) w v
       unfolding name_at
       labelled p =
           let n : name_at b 0 ≡ Some bs = rw (ne_eqb (u8_at b 0) 255 is_number) (ap Some (sym (eb ∙ ap (λ (i : ℕ). take i (drop 1 b)) ek))) in
-          kept_as p.kept (omega (arith, short)) (λ s h. sym (λ j. label_if (e j) (name id) (n j) s))
+          added_as p (omega (arith, short)) (λ s. sym (λ j. label_if (e j) (name id) (n j) s))
 
 -- ---- Block on the base
 

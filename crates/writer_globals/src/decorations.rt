@@ -11,7 +11,7 @@ ghost use Rattle.records.specs.Places.{types_in};
 ghost use Rattle.entries.specs.Globals.{global_of};
 ghost use Rattle.writer.specs.Cost.{annotating, naming, a_block};
 ghost use Rattle.writer.specs.Held.{RoomFor, Room};
-ghost use Rattle.writer.specs.Steps.{Kept};
+ghost use Rattle.writer.specs.Steps.{Kept, Added};
 ghost use Rattle.writer_globals.specs.Globals.{binding_decorated};
 
 use entries::globals::{GlobalVariable, ResourceBinding};
@@ -24,7 +24,7 @@ use writer::Writer;
 // A decoration without operands, where it is asked for; not Block.
 fn decorate_if(w: &mut Writer<'_, '_>, there: bool, id: u64, decoration: Decoration)
     requires { RoomFor (annotating 3) w.old × (eqb (decoration_number decoration) DecorationBlock ≡ false) }
-    ensures { Kept (annotating 3) (annotate_if there (decorate id (decoration_number decoration) [])) w.old w.new }
+    ensures { Added (annotating 3) (annotate_if there (decorate id (decoration_number decoration) [])) w.old w.new }
 {
     if there {
         w.decorate(id, decoration, &[]);
@@ -45,7 +45,7 @@ pub fn access_of(types: Earlier<'_>, global: GlobalVariable) -> Option<u8>
 // Bit 0 of an access is load, bit 1 store.
 pub fn decorate_access(w: &mut Writer<'_, '_>, id: u64, access: Option<u8>)
     requires { RoomFor (annotating 6) w.old }
-    ensures { Kept (annotating 6) (decorate_access access id) w.old w.new }
+    ensures { Added (annotating 6) (decorate_access access id) w.old w.new }
 {
     if let Some(x) = access {
         decorate_if(w, x % 2 == 0, id, Decoration::NonReadable);
@@ -55,7 +55,7 @@ pub fn decorate_access(w: &mut Writer<'_, '_>, id: u64, access: Option<u8>)
 
 pub fn decorate_binding(w: &mut Writer<'_, '_>, id: u64, binding: Option<ResourceBinding>)
     requires { RoomFor (annotating 8) w.old }
-    ensures { Kept (annotating 8) (binding_decorated binding id) w.old w.new }
+    ensures { Added (annotating 8) (binding_decorated binding id) w.old w.new }
 {
     if let Some(r) = binding {
         w.decorate(id, Decoration::DescriptorSet, &[r.group]);
@@ -67,7 +67,7 @@ pub fn decorate_binding(w: &mut Writer<'_, '_>, id: u64, binding: Option<Resourc
 #[tactic(auto, using(crate::proofs::Notes::nameless, crate::proofs::Notes::short))]
 pub fn name_global(w: &mut Writer<'_, '_>, debug: bool, id: u64, body: &[u8])
     requires { RoomFor (naming (name_end body.now 0 + 2)) w.old }
-    ensures { Kept (naming (name_end body.now 0 + 2)) (label_if debug (name id) (name_at body.now 0)) w.old w.new }
+    ensures { Added (naming (name_end body.now 0 + 2)) (label_if debug (name id) (name_at body.now 0)) w.old w.new }
 {
     if !debug {
         return;

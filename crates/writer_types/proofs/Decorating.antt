@@ -12,8 +12,8 @@ use Rattle.definition.specs.Sheet.{Member, TypeEntry}
 use Rattle.definition.specs.Rules.{decorate_member, inner_at, is_dynamic, any_dynamic}
 use Rattle.writer.specs.declared.Writer.{Writer}
 use Rattle.writer.specs.Held.{RoomFor}
-use Rattle.writer.specs.Steps.{Kept}
-use Rattle.writer.proofs.Turns.{still, in_turn, kept_as}
+use Rattle.writer.specs.Steps.{Added}
+use Rattle.writer.proofs.Turns.{added_still, added_then, added_within}
 use Rattle.writer_types.specs.Members.{decorated}
 use Rattle.writer_types.specs.Costs.{weight, named_member_cost, members_cost}
 
@@ -21,7 +21,7 @@ use Rattle.writer_types.specs.Costs.{weight, named_member_cost, members_cost}
 pub record Going (debug : Bool) (ts : List TypeEntry) (id : ℕ) (all : List Member) (w v : Writer) (ms : List Member) (i : ℕ) : Type 0 where
   pub few : i + length ms < 256
   pub room : RoomFor (members_cost ms) v
-  pub rest : (u : Writer) → Kept (members_cost ms) (decorated debug ts id i ms) v u → Kept (members_cost all) (decorated debug ts id 0 all) w u
+  pub rest : (u : Writer) → Added (members_cost ms) (decorated debug ts id i ms) v u → Added (members_cost all) (decorated debug ts id 0 all) w u
 
 module _ {debug : Bool} {ts : List TypeEntry} {id i : ℕ} {all left : List Member} {w v : Writer} where
   module _ {m : Member} {ms : List Member} (e : left ≡ m ∷ ms) (h : Going debug ts id all w v left i) where
@@ -33,17 +33,17 @@ module _ {debug : Bool} {ts : List TypeEntry} {id i : ℕ} {all left : List Memb
     unfolding weight
     room_left = omega (arith, here.room)
 
-    pub on : {j k : ℕ} → j ≡ i → k ≡ i + 1 → {u : Writer} → Kept (named_member_cost m.name) (decorate_member debug ts id j m) v u → Going debug ts id all w u ms k
+    pub on : {j k : ℕ} → j ≡ i → k ≡ i + 1 → {u : Writer} → Added (named_member_cost m.name) (decorate_member debug ts id j m) v u → Going debug ts id all w u ms k
     unfolding decorated weight
     on ej ek d = record {
       few = omega (arith, here.few);
-      room = omega (arith, here.room, d.grown);
-      rest = λ x y. here.rest x (kept_as (in_turn (rw ej at d) (rw (ek, add-one) at y)) (omega arith) (λ s q. refl));
+      room = omega (arith, here.room, d.kept.grown);
+      rest = λ x y. here.rest x (added_within (added_then (rw ej at d) (rw (ek, add-one) at y)) (omega arith));
     }
 
-  pub done : left ≡ [] → Going debug ts id all w v left i → Kept (members_cost all) (decorated debug ts id 0 all) w v
+  pub done : left ≡ [] → Going debug ts id all w v left i → Added (members_cost all) (decorated debug ts id 0 all) w v
   unfolding decorated weight
-  done e h = (rw e at h).rest v (still (members_cost []) v (λ s. refl))
+  done e h = (rw e at h).rest v (added_still (members_cost []) v)
 
 -- a dynamic array among them
 pub any_dynamic_lem : (ts : List TypeEntry) (ms : List Member) → list_any (λ m. is_dynamic (inner_at ts m.type)) ms ≡ any_dynamic ts ms

@@ -7,7 +7,7 @@ ghost use Rattle.definition.specs.Tests.{present};
 ghost use Rattle.definition.specs.Rules.{label_if};
 ghost use Rattle.writer.specs.Cost.{naming};
 ghost use Rattle.writer.specs.Held.{RoomFor};
-ghost use Rattle.writer.specs.Steps.{Kept};
+ghost use Rattle.writer.specs.Steps.{Added};
 ghost use Rattle.writer_types.specs.Costs.{name_length};
 
 use entries::members::{has_name, name_part};
@@ -33,7 +33,7 @@ pub fn short_name(body: &[u8], i: usize) -> &[u8]
 // The name of a type, which stands at the front of its body.
 pub fn name_type(w: &mut Writer<'_, '_>, body: &[u8], debug: bool, id: u64)
     requires { RoomFor (naming (name_length (name_at body.now 0) + 3)) w.old }
-    ensures { Kept (naming (name_length (name_at body.now 0) + 3)) (label_if debug (name id) (name_at body.now 0)) w.old w.new }
+    ensures { Added (naming (name_length (name_at body.now 0) + 3)) (label_if debug (name id) (name_at body.now 0)) w.old w.new }
 {
     if is_written(body, debug, 0) {
         w.label(id, short_name(body, 0));

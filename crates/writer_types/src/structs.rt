@@ -6,7 +6,7 @@ ghost use Rattle.members.specs.Walk.{member_of, members_left};
 ghost use Rattle.records.specs.Places.{types_in};
 ghost use Rattle.writer.specs.Cost.{a_block};
 ghost use Rattle.writer.specs.Held.{RoomFor, Room};
-ghost use Rattle.writer.specs.Steps.{Kept};
+ghost use Rattle.writer.specs.Steps.{Kept, Added};
 ghost use Rattle.writer_types.specs.Members.{decorated};
 ghost use Rattle.writer_types.specs.Costs.{named_member_cost, members_cost, struct_cost};
 
@@ -29,7 +29,7 @@ fn decorate_member(
     m: Member<'_>,
 )
     requires { RoomFor (named_member_cost (member_of m).name) w.old }
-    ensures { Kept (named_member_cost (member_of m.entry).name) (decorate_member debug (types_in types.entry) id i (member_of m.entry)) w.old w.new }
+    ensures { Added (named_member_cost (member_of m.entry).name) (decorate_member debug (types_in types.entry) id i (member_of m.entry)) w.old w.new }
 {
     let named = is_written(m.body, debug, m.name);
     let name = short_name(m.body, m.name);
@@ -46,7 +46,7 @@ fn decorate_struct_members(
     members: Members<'_>,
 )
     requires { RoomFor (members_cost (members_left members)) w.old }
-    ensures { Kept (members_cost (members_left members.entry)) (decorated debug (types_in types.entry) id 0 (members_left members.entry)) w.old w.new }
+    ensures { Added (members_cost (members_left members.entry)) (decorated debug (types_in types.entry) id 0 (members_left members.entry)) w.old w.new }
 {
     for (i, m) in members.enumerate() {
         decorate_member(w, types, debug, id, i as u32, m);

@@ -9,6 +9,7 @@ use Rattle.lookup.specs.Local.{local_shape, as_list}
 use Rattle.lookup.specs.Packed.{SmallShape}
 use Rattle.spirv.specs.Ids.{low}
 use Rattle.writer.specs.Steps.{Spells}
+use Rattle.writer.proofs.Turns.{listed_added}
 use Rattle.finding.specs.Costs.{longer}
 use Rattle.finding.proofs.Spelling.{type_low, type_few}
 use Rattle.finding.proofs.Ways.{put_declared}
@@ -31,7 +32,7 @@ returns c =
     let a = c.args in
     let l = local_shape a.l in
     let k = c.capabilities_of-c in
-    let p = c.list_capability.ensures.kept (omega (arith, c.requires.1)) in
-    let q = c.list_capability-2.ensures.kept (omega (arith, p.grown, c.requires.1)) in
+    let p = listed_added c.list_capability.ensures (omega (arith, c.requires.1)) in
+    let q = listed_added c.list_capability-2.ensures (omega (arith, p.kept.grown, c.requires.1)) in
     put_declared l a.id a.x a.y (as_list k.result.first) (as_list k.result.second) k.ensures p q
-    (c.declare.ensures (type_of l a.id a.x a.y) (4 + longer l) (words (type_of l (low a.id) (low a.x) (low a.y))) (λ s n t k. search rules) (spelt l c.requires.0 a.id a.x a.y) (omega (arith, p.grown, q.grown, c.requires.1)))
+    (c.declare.ensures (type_of l a.id a.x a.y) (4 + longer l) (words (type_of l (low a.id) (low a.x) (low a.y))) (λ s n t k. search rules) (spelt l c.requires.0 a.id a.x a.y) (omega (arith, p.kept.grown, q.kept.grown, c.requires.1)))
